@@ -1,0 +1,3 @@
+-- The laws of the definitions, which the layers above cite.
+pub mod Rounding
+pub mod Root

@@ -1,0 +1,123 @@
+-- The laws of the nearest root: the definition satisfies its two inequalities, only one number does, and both roots of the paper are it.
+use Prim.Native.Nat.{ℕ, zero, suc, _+_, _-_, _*_, _/_, _%_, _^_, _≤_, _<_}
+use mathlib.Core.Path.{_≡_, refl, sym, _∙_}
+use mathlib.Core.Bool.{Bool, true, false}
+use native.Mathlib.Nat.{mul-add, add-mul, add-assoc, mul-comm, mul-assoc, two-mul, mul-le-mul, pow-suc, pow-succ', le-trans, le-of-lt, lt-of-lt-of-le, lt-of-not-le, not-le-of-lt, le-div-iff-mul-le, le-antisymm}
+use native.Mathlib.Decide.{decLe, decLt}
+use native.Mathlib.Omega.{arith}
+use borrow.Author.Tests.{le-leb, lt-leb}
+use lib.Dec.{leb}
+use lib.Pow.{pow-add, pow-mono}
+use Rattle.arith.specs.Root.{grown, floorRoot, nearestRoot, IsRoot, FirstBound, Largest, NearestRootOf}
+
+-- the square of a sum
+square-add : (a b : ℕ) → (a + b) * (a + b) ≡ a * a + 2 * (a * b) + b * b
+square-add a b =
+    let e : (a + b) * (a + b) ≡ a * a + b * a + (a * b + b * b) = mul-add (a + b) a b ∙ rw (add-mul a b a, add-mul a b b) in
+    let s : b * a ≡ a * b = mul-comm b a in
+    omega arith
+
+square-double : (a : ℕ) → 2 * a * (2 * a) ≡ 4 * (a * a)
+square-double a =
+    let e : 2 * a * (2 * a) ≡ 2 * (a * (2 * a)) = mul-assoc 2 a (2 * a) in
+    let f : a * (2 * a) ≡ a * a + a * a = rw (two-mul a, mul-add a a a) in
+    omega arith
+
+square-mono : {a b : ℕ} → a ≤ b → a * a ≤ b * b
+square-mono h = mul-le-mul h h
+
+-- r is the whole part of the square root of y
+record IsFloor (y r : ℕ) : Type 0 where
+  low : r * r ≤ y
+  high : y < (r + 1) * (r + 1)
+
+grown-is : (y r : ℕ) → r * r ≤ y → y < (r + 2) * (r + 2) → IsFloor y (grown (leb ((r + 1) * (r + 1)) y) r)
+unfolding grown
+grown-is y r l h = go (decLe ((r + 1) * (r + 1)) y)
+  where
+    go : Dec ((r + 1) * (r + 1) ≤ y) → IsFloor y (grown (leb ((r + 1) * (r + 1)) y) r)
+    go (yes t) = rw (le-leb _ _ t) (record { low = t; high = rw (add-assoc r 1 1) h })
+    go (no f) = rw (lt-leb _ _ (lt-of-not-le f)) (record { low = l; high = lt-of-not-le f })
+
+-- one more base-4 digit: the root of the digits before it, doubled, or one more
+digit-low : (y s : ℕ) → s * s ≤ y / 4 → 2 * s * (2 * s) ≤ y
+digit-low y s h =
+    let d : 2 * s * (2 * s) ≡ 4 * (s * s) = square-double s in
+    omega arith
+
+digit-high : (y s : ℕ) → y / 4 < (s + 1) * (s + 1) → y < (2 * s + 2) * (2 * s + 2)
+digit-high y s h =
+    let d : 2 * (s + 1) * (2 * (s + 1)) ≡ 4 * ((s + 1) * (s + 1)) = square-double (s + 1) in
+    let e : 2 * s + 2 ≡ 2 * (s + 1) = omega arith in
+    rw e (rw d (omega arith))
+
+floor-is : (k y : ℕ) → y < 4 ^ k → IsFloor y (floorRoot k y)
+unfolding floorRoot
+floor-is zero y h = record { low = omega arith; high = omega (arith, h) }
+floor-is (suc k) y h =
+    let p : 4 ^ suc k ≡ 4 ^ k * 4 = pow-suc 4 k in
+    let i : IsFloor (y / 4) (floorRoot k (y / 4)) = floor-is k (y / 4) (omega arith) in
+    grown-is y (2 * floorRoot k (y / 4)) (digit-low y _ (i .low)) (digit-high y _ (i .high))
+
+-- from the whole part s of the square root of y to the number nearest its half
+halved-is : (y s : ℕ) → IsFloor y s → IsRoot y ((s + 1) / 2)
+halved-is y s f =
+    let q : ℕ = (s + 1) / 2 in
+    let a : 2 * q - 1 ≤ s = omega arith in
+    let b : s + 1 ≤ 2 * q + 1 = omega arith in
+    record { low = le-trans (square-mono a) (f .low); high = lt-of-lt-of-le (f .high) (square-mono b) }
+
+-- The definition is the root
+pub nearest-is : (y : ℕ) → y < 2 ^ 64 → IsRoot y (nearestRoot y)
+unfolding nearestRoot
+nearest-is y h = halved-is y (floorRoot 32 y) (floor-is 32 y h)
+
+-- What lies at or above its lower inequality is no higher than what its upper inequality lies below
+pub root-le : {y : ℕ} (q m : ℕ) → (2 * q - 1) * (2 * q - 1) ≤ y → y < (2 * m + 1) * (2 * m + 1) → q ≤ m
+root-le {y} q m low high = go (decLe q m)
+  where
+    go : Dec (q ≤ m) → q ≤ m
+    go (yes t) = t
+    go (no f) =
+        let above : m < q = lt-of-not-le f in
+        let apart : 2 * m + 1 ≤ 2 * q - 1 = omega arith in
+        absurd (not-le-of-lt high (le-trans (square-mono apart) low))
+
+-- Only one number is the root
+pub root-unique : {y p q : ℕ} → IsRoot y p → IsRoot y q → p ≡ q
+root-unique {y} {p} {q} i j = le-antisymm (root-le p q (i .low) (j .high)) (root-le q p (j .low) (i .high))
+
+-- A number of j + 1 bits has its root below 2 ^ (j / 2) + 1
+pub bound-of-length : (y j : ℕ) → y < 2 ^ suc j → j < 64 → FirstBound y (2 ^ (j / 2) + 1)
+bound-of-length y j short fits =
+    let k : ℕ = j / 2 in
+    let double : 2 ^ suc k ≡ 2 * 2 ^ k = pow-succ' 2 k in
+    let square : 2 ^ (suc k + suc k) ≡ 2 ^ suc k * 2 ^ suc k = pow-add 2 (suc k) (suc k) in
+    let length : suc j ≤ suc k + suc k = omega arith in
+    let enough : 2 ^ suc j ≤ 2 ^ (suc k + suc k) = pow-mono length in
+    let wider : 2 ^ suc k * 2 ^ suc k ≤ (2 * (2 ^ k + 1) - 1) * (2 * (2 ^ k + 1) - 1) = square-mono (omega arith) in
+    let half : k ≤ 31 = omega arith in
+    let small : 2 ^ k ≤ 2147483648 = pow-mono half in
+    record { above = omega arith; some = omega arith; small = omega arith }
+
+-- Line 14's own words: the largest q with (2q - 1)² d at most n
+pub root-largest : (n d : ℕ) → 0 < d → n / d < 2 ^ 64 → Largest (λ q. (2 * q - 1) * (2 * q - 1) * d ≤ n) (nearestRoot (n / d))
+root-largest n d h fits =
+    let i : IsRoot (n / d) (nearestRoot (n / d)) = nearest-is (n / d) fits in
+    record
+    { holds = le-div-iff-mul-le h .0 (i .low)
+    ; most = λ p t. root-le p _ (le-div-iff-mul-le h .1 t) (i .high)
+    }
+
+-- Line 13's own words: the whole number nearest the square root of x
+pub root-nearest : (x : ℕ) → 4 * x < 2 ^ 64 → NearestRootOf x (nearestRoot (4 * x))
+root-nearest x fits p =
+    let i : IsRoot (4 * x) (nearestRoot (4 * x)) = nearest-is (4 * x) fits in
+    let q : ℕ = nearestRoot (4 * x) in
+    ( (λ below. le-trans (square-mono (below-odd p q below)) (i .low))
+    , (λ above. le-trans (le-of-lt (i .high)) (square-mono (above-odd p q above))))
+  where
+    below-odd : (p q : ℕ) → p < q → p + q ≤ 2 * q - 1
+    below-odd p q h = omega arith
+    above-odd : (p q : ℕ) → q < p → 2 * q + 1 ≤ p + q
+    above-odd p q h = omega arith

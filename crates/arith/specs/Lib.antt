@@ -1,0 +1,3 @@
+-- What the arithmetic means: a rounded quotient and a nearest root.
+pub mod Rounding
+pub mod Root
