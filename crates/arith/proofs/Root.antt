@@ -104,20 +104,22 @@ bound-of-length y j short fits =
 pub root-largest : (n d : ℕ) → 0 < d → n / d < 2 ^ 64 → Largest (λ q. (2 * q - 1) * (2 * q - 1) * d ≤ n) (nearestRoot (n / d))
 root-largest n d h fits =
     let i : IsRoot (n / d) (nearestRoot (n / d)) = nearest-is (n / d) fits in
-    record
-    { holds = le-div-iff-mul-le h .0 (i .low)
-    ; most = λ p t. root-le p _ (le-div-iff-mul-le h .1 t) (i .high)
+    record {
+      holds = le-div-iff-mul-le h .0 (i .low);
+      most = λ p t. root-le p _ (le-div-iff-mul-le h .1 t) (i .high);
     }
 
 -- Line 13's own words: the whole number nearest the square root of x
 pub root-nearest : (x : ℕ) → 4 * x < 2 ^ 64 → NearestRootOf x (nearestRoot (4 * x))
 root-nearest x fits p =
     let i : IsRoot (4 * x) (nearestRoot (4 * x)) = nearest-is (4 * x) fits in
-    let q : ℕ = nearestRoot (4 * x) in
-    ( (λ below. le-trans (square-mono (below-odd p q below)) (i .low))
-    , (λ above. le-trans (le-of-lt (i .high)) (square-mono (above-odd p q above))))
+    let q : ℕ = nearestRoot (4 * x) in (
+      (λ below. le-trans (square-mono (below-odd p q below)) (i .low)),
+      (λ above. le-trans (le-of-lt (i .high)) (square-mono (above-odd p q above))),
+    )
   where
     below-odd : (p q : ℕ) → p < q → p + q ≤ 2 * q - 1
     below-odd p q h = omega arith
+
     above-odd : (p q : ℕ) → q < p → 2 * q + 1 ≤ p + q
     above-odd p q h = omega arith

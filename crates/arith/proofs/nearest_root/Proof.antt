@@ -58,11 +58,11 @@ loop-less c = omega arith
 
 loop-again : tie.Need-loop-again Inv-loop μ-loop
 loop-again c =
-    record
-    { reached = c .if1 .taken
-    ; above = c .before .before .loop .inv .above
-    ; apart = omega arith
-    ; small = c .before .before .loop .inv .small
+    record {
+      reached = c .if1 .taken;
+      above = c .before .before .loop .inv .above;
+      apart = omega arith;
+      small = c .before .before .loop .inv .small;
     }
 
 loop-less-2 : tie.Need-loop-less-2 Inv-loop μ-loop
@@ -70,11 +70,11 @@ loop-less-2 c = omega arith
 
 loop-again-2 : tie.Need-loop-again-2 Inv-loop μ-loop
 loop-again-2 c =
-    record
-    { reached = c .before .before .loop .inv .reached
-    ; above = c .if1 .left
-    ; apart = omega arith
-    ; small = omega arith
+    record {
+      reached = c .before .before .loop .inv .reached;
+      above = c .if1 .left;
+      apart = omega arith;
+      small = omega arith;
     }
 
 returns : tie.Need-returns Inv-loop μ-loop

@@ -1,0 +1,2 @@
+-- The laws of the ranges, which the layers above cite.
+pub mod Ranges

@@ -1,0 +1,18 @@
+-- The shape decides which of the two ranges is asked.
+use mathlib.Core.Path.{_∙_}
+use borrow.Author.Needs.{needs}
+use borrow.Author.Tests.{eq-eqb, ne-eqb}
+use Rattle.readings.proofs.runs.Side.check_second.Statement.{statement}
+use Rattle.readings.proofs.runs.Side.check_second.Tie as tie
+
+returns : tie.Need-returns
+returns c = rw (eq-eqb _ _ (c .if1 .taken))
+
+check-requires : tie.Need-check-requires
+check-requires c κs = search needs
+
+returns-2 : tie.Need-returns-2
+returns-2 c = rw (ne-eqb _ _ (c .before .if1 .left)) (c .check .ensures)
+
+pub check-second-spec : {M : Type 1} → statement M
+check-second-spec = tie.close (tie.spec returns check-requires returns-2)

@@ -1,0 +1,11 @@
+// The kinds of reading: a type for each, with the least and the greatest value that the paper allows and the check that uses them.
+// Each check's contract cites a definition of specs/Ranges that holds the paper's numbers, so a constant changed alone is refused.
+// Relies on nothing below it.
+
+pub mod certificates;
+pub mod headers;
+pub mod layouts;
+pub mod points;
+pub mod range;
+pub mod runs;
+pub mod weighings;
