@@ -1,0 +1,50 @@
+-- Lines 16 to 20: the nozzle, the percent isokinetic, the catch and the concentration.
+use Prim.Native.Nat.{ℕ, _+_, _*_, _/_, _^_, min}
+use mathlib.Core.List.{List}
+use lib.IntN.{ℤ, pos, negsuc, subℕ}
+use lib.ListN.{getD}
+use Rattle.arith.specs.Rounding.{roundDiv}
+use Rattle.records.specs.declared.Acetone.{Acetone}
+use Rattle.records.specs.declared.Weighing.{Weighing}
+use Rattle.records.specs.Records.{noWeighing, sumTo}
+use Rattle.lines.specs.declared.Value.{Value}
+use Rattle.lines.specs.declared.Value.the-variants.{Known, Missing}
+use Rattle.lines.specs.declared.Diameters.{Diameters}
+use Rattle.lines.specs.declared.Diameters.the-variants.{Measured, Unknown}
+use Rattle.lines.specs.Promise.{unlessZero}
+
+-- Line 16. Nozzle area, 10^-8 ft2, from the sum of the three diameters: absent without a nozzle certificate
+unfoldable pub nozzleArea : Diameters → Value
+nozzleArea Unknown = Missing
+nozzleArea (Measured a b c) = Known (roundDiv (31416 * ((a + b + c) * (a + b + c))) 518400)
+
+-- Line 17. Drawn gas
+unfoldable pub drawnGas : Value → ℕ → ℕ → ℕ → Value
+drawnGas Missing vapor pressure temperature = Missing
+drawnGas (Known dry) vapor pressure temperature =
+    Known (roundDiv (945 * temperature * (dry + vapor)) (10 * pressure))
+
+-- Line 18. Percent isokinetic, 0.01 percent: absent where line 15 is 0
+unfoldable pub isokinetic : Value → Value → Value → ℕ → Value
+isokinetic Missing velocity area t = Missing
+isokinetic (Known drawn) Missing area t = Missing
+isokinetic (Known drawn) (Known velocity) Missing t = Missing
+isokinetic (Known drawn) (Known velocity) (Known area) t =
+    unlessZero velocity (roundDiv (6 * 10 ^ 11 * drawn) (velocity * area * t))
+
+-- the acetone's share: the smaller of the blank's, rounded, and what the density allows, rounded down
+unfoldable pub deduction : Acetone → ℕ
+deduction a = min (roundDiv (a .residue * a .rinse) (a .blank)) (a .rinse * a .density / 100000)
+
+-- Line 19. Catch, 0.1 mg: second final weights less tares, less the acetone's share
+unfoldable pub catch : List Weighing → ℕ → Acetone → ℤ
+catch weighings n acetone =
+    subℕ
+    (sumTo (λ i. getD weighings i noWeighing .second) n)
+    (sumTo (λ i. getD weighings i noWeighing .tare) n + deduction acetone)
+
+-- Line 20. Concentration, 0.00001 gr/dscf: absent where line 6 is absent or 0, and where line 19 is negative
+unfoldable pub concentration : ℤ → Value → Value
+concentration (negsuc c) dry = Missing
+concentration (pos c) Missing = Missing
+concentration (pos c) (Known dry) = unlessZero dry (roundDiv (154300 * c) dry)
