@@ -1,10 +1,24 @@
-// The ground floor: rounded division and the nearest root, each once for every unit of the paper.
+// The ground floor: rounded division and the nearest root, each once for every unit of the paper, and two small choices.
 // Nothing here knows of stacks or meters. The layers above rely on `roundDiv` and `nearestRoot` and their laws.
 
 ghost use mathlib.Core.Path.{_≡_};
-ghost use Prim.Native.Nat.{_<_, _≤_};
+ghost use Prim.Native.Nat.{_-_, _<_, min};
 ghost use Rattle.arith.specs.Rounding.{roundDiv};
 ghost use Rattle.arith.specs.Root.{nearestRoot, FirstBound};
+
+// What is left of a after b is taken, 0 where b is more.
+pub fn less(a: u64, b: u64) -> u64
+    ensures { λ r. ⌜ r ≡ a - b ⌝ }
+{
+    if b <= a { a - b } else { 0 }
+}
+
+// The smaller of two numbers.
+pub fn smaller(a: u64, b: u64) -> u64
+    ensures { λ r. ⌜ r ≡ min a b ⌝ }
+{
+    if a <= b { a } else { b }
+}
 
 // n / d to the nearest whole number, halves upward. The quotient and the remainder decide, so nothing overflows.
 pub fn round_div(n: u64, d: u64) -> u64

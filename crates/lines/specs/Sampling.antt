@@ -36,12 +36,16 @@ isokinetic (Known drawn) (Known velocity) (Known area) t =
 unfoldable pub deduction : Acetone → ℕ
 deduction a = min (roundDiv (a .residue * a .rinse) (a .blank)) (a .rinse * a .density / 100000)
 
+-- the second final weights, and the tares, over all weighings
+unfoldable pub finalWeights : List Weighing → ℕ → ℕ
+finalWeights weighings n = sumTo (λ i. getD weighings i noWeighing .second) n
+
+unfoldable pub tares : List Weighing → ℕ → ℕ
+tares weighings n = sumTo (λ i. getD weighings i noWeighing .tare) n
+
 -- Line 19. Catch, 0.1 mg: second final weights less tares, less the acetone's share
 unfoldable pub catch : List Weighing → ℕ → Acetone → ℤ
-catch weighings n acetone =
-    subℕ
-    (sumTo (λ i. getD weighings i noWeighing .second) n)
-    (sumTo (λ i. getD weighings i noWeighing .tare) n + deduction acetone)
+catch weighings n acetone = subℕ (finalWeights weighings n) (tares weighings n + deduction acetone)
 
 -- Line 20. Concentration, 0.00001 gr/dscf: absent where line 6 is absent or 0, and where line 19 is negative
 unfoldable pub concentration : ℤ → Value → Value

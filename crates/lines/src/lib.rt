@@ -1,6 +1,11 @@
 // The twenty lines of the calculation sheet. Each is a function of its own, promised to be its equation of the paper
 // and to lie in a range; a line relies on the promises of the lines that it names and on nothing inside them.
 
+pub mod flow;
+pub mod results;
+pub mod signed;
+pub mod volumes;
+
 // A number that a line is worked from: known, or missing where a certificate or an earlier line is.
 pub enum Value {
     Known(u64),

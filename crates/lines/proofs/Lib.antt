@@ -1,0 +1,8 @@
+-- The laws that the lines' proofs share.
+pub mod Promise
+pub mod Signs
+pub mod Sums
+pub mod Points
+pub mod MeteringLaws
+pub mod FlowLaws
+pub mod SamplingLaws
