@@ -6,3 +6,5 @@ pub mod Points
 pub mod MeteringLaws
 pub mod FlowLaws
 pub mod SamplingLaws
+pub mod CatchLaws
+pub mod SheetLaws

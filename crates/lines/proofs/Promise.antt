@@ -3,7 +3,9 @@ use Prim.Native.Nat.{ℕ, _+_, _*_, _≤_, _<_}
 use mathlib.Core.Path.{_≡_, refl, sym, _∙_}
 use mathlib.Core.Bool.{Bool, true, false}
 use native.Mathlib.Omega.{arith}
+use native.Mathlib.Nat.{le-trans}
 use borrow.Author.Tests.{eq-eqb, ne-eqb}
+use lib.Dec.{T, leb, lit≤}
 use Rattle.arith.specs.Rounding.{roundDiv}
 use Rattle.arith.proofs.Rounding.{le-round, round-le-exact}
 use Rattle.lines.specs.declared.Value.{Value}
@@ -13,10 +15,10 @@ use Rattle.lines.specs.Promise.{Is, Between, IsValue, unlessZero}
 -- a rounded quotient is at least what it reaches, and at most what it stays less than a half above
 pub rounded : {n d r : ℕ} (least greatest : ℕ) → 0 < d → r ≡ roundDiv n d → least * d ≤ n → 2 * n < 2 * (greatest * d) + d → Is least greatest (roundDiv n d) r
 rounded {n} {d} least greatest some e low high =
-    record
-    { is = e
-    ; low = rw e (le-round n d least some low)
-    ; high = rw e (round-le-exact n d greatest some high)
+    record {
+      is = e;
+      low = rw e (le-round n d least some low);
+      high = rw e (round-le-exact n d greatest some high);
     }
 
 -- nothing is known of a missing value
@@ -49,3 +51,8 @@ unless-zero {d} v e = rw (eq-eqb d 0 e)
 pub unless-some : (d v : ℕ) → (d ≡ 0 → ⊥) → unlessZero d v ≡ Known v
 unfolding unlessZero
 unless-some d v f = rw (ne-eqb d 0 f)
+
+-- a value in a line's range is small enough to be written
+pub between-small : {least greatest : ℕ} {v : Value} → T (leb greatest 9223372036854775807) → Between least greatest v → Between 0 9223372036854775807 v
+between-small {least} {greatest} small b =
+    record { known = λ n e. let t = b .known n e in (omega arith, le-trans (t .1) (lit≤ {m = greatest} small)) }

@@ -3,6 +3,7 @@
 
 pub mod flow;
 pub mod results;
+pub mod sheets;
 pub mod signed;
 pub mod volumes;
 

@@ -1,45 +1,54 @@
+-- Line 20. Missing without line 6, where it is 0, and where the catch is negative; else the rounded quotient.
 use borrow.Author.Needs.{needs}
+use native.Mathlib.Omega.{arith}
+use Rattle.lines.proofs.Promise.{rounded, is-missing, is-known}
+use Rattle.lines.proofs.SamplingLaws.{concentration-no-volume, concentration-negative, concentration-zero, concentration-known}
+use Rattle.lines.proofs.CatchLaws.{Caught, caught, lost}
+use mathlib.Core.Path.{_∙_, ap}
+use lib.IntN.{natAbs}
+use Prim.Native.Nat.{_*_}
+use native.Mathlib.Nat.{mul-le-mul-left, pos-of-ne-zero}
+use Rattle.arith.specs.Rounding.{roundDiv}
 use Rattle.lines.proofs.results.concentration.Statement.{statement}
 use Rattle.lines.proofs.results.concentration.Tie as tie
-use Rattle.lines.proofs.results.concentration.Reads as reads
-use Rattle.lines.proofs.results.concentration.Lts as lts
-use Rattle.arith.proofs.round_div.Reads as round-div-reads
 
--- src/results.rt:116:22
+weighed : (c : tie.Else2) → Caught (c .before .before .before .before .before .args .caught)
+weighed c = caught _ (c .before .before .before .before .before .pre .0) (c .before .if1 .left)
+
 enum-known-dry : tie.Need-enum-known-dry
 enum-known-dry c = search needs
 
--- src/results.rt:117:9
 enum-told : tie.Need-enum-told
 enum-told c = search needs
 
--- src/results.rt:117:9
 returns : tie.Need-returns
-returns c = ?
+returns c = is-missing (concentration-no-volume _ (c .enum-told .given .1))
 
--- src/results.rt:120:9
 returns-2 : tie.Need-returns-2
-returns-2 c = ?
+returns-2 c =
+    is-missing (concentration-negative _ (lost _ (c .before .before .before .before .pre .0) (c .if1 .taken) .is))
 
--- src/results.rt:123:9
 returns-3 : tie.Need-returns-3
-returns-3 c = ?
+returns-3 c =
+    is-missing (concentration-zero (caught _ (c .before .before .before .before .before .pre .0) (c .before .if1 .left) .is) (c .before .before .before .dry .given .1) (c .if2 .taken))
 
--- src/results.rt:125:38
 cast-round-div : tie.Need-cast-round-div
-cast-round-div c = ?
+cast-round-div c = let s = weighed c in rw (s .bits) (tt, omega (arith, s .most))
 
--- src/results.rt:125:28
 mul-round-div : tie.Need-mul-round-div
-mul-round-div c = ?
+mul-round-div c = let s = weighed c in rw (s .bits) (omega (arith, s .most))
 
--- src/results.rt:125:18
 round-div-requires : tie.Need-round-div-requires
 round-div-requires c κs = search needs
 
--- src/results.rt:111:1
 returns-4 : tie.Need-returns-4
-returns-4 c = ?
+returns-4 c =
+    let at = c .before in
+    let s = weighed at in
+    let enough = mul-le-mul-left 4937600000000 (pos-of-ne-zero (at .if2 .left)) in
+    is-known
+    (rounded 0 4937600000000 (pos-of-ne-zero (at .if2 .left)) (c .round-div .ensures ∙ ap (λ z. roundDiv (154300 * natAbs z) (at .before .before .before .dry .given .0 .0)) (s .bits)) (omega arith) (omega (arith, s .most, enough)))
+    (concentration-known (s .is) (at .before .before .before .dry .given .1) (at .if2 .left))
 
 pub concentration-spec : {M : Type 1} → statement M
 concentration-spec =

@@ -38,7 +38,7 @@ round-div-requires : tie.Need-round-div-requires
 round-div-requires c κs = search needs
 
 returns-2 : tie.Need-returns-2
-returns-2 c = 
+returns-2 c =
     let at = c .before in
     is-known
     (rounded 0 19675261 (omega arith) (c .round-div .ensures) (omega arith) (omega (arith, numerator-most at)))

@@ -51,7 +51,7 @@ returns-3 : tie.Need-returns-3
 returns-3 c = is-missing (isokinetic-no-area _ (c .before .before .before .before .before .before .drawn .given .1) (c .before .before .before .velocity .given .1) (c .enum-told3 .given .1))
 
 returns-4 : tie.Need-returns-4
-returns-4 c = 
+returns-4 c =
     let speed = c .before .before .before .before .before in
     is-missing (isokinetic-still _ (speed .before .before .before .drawn .given .1) (speed .velocity .given .1) (c .before .before .area .given .1) (c .if1 .taken))
 
@@ -68,7 +68,7 @@ round-div-requires : tie.Need-round-div-requires
 round-div-requires c κs = omega (arith, least c)
 
 returns-5 : tie.Need-returns-5
-returns-5 c = 
+returns-5 c =
     let at = c .before in
     let speed = at .before .before .before .before .before in
     let enough = mul-le-mul-left 2164495159515952 (least at) in

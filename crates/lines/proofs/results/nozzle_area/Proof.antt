@@ -42,7 +42,7 @@ round-div-requires : tie.Need-round-div-requires
 round-div-requires c κs = search needs
 
 returns-2 : tie.Need-returns-2
-returns-2 c = 
+returns-2 c =
     let at = c .before in
     is-known
     (rounded 5454 545417 (lit< tt) (c .round-div .ensures) (omega (arith, square-least (sum-least at))) (omega (arith, square-most (sum-most at))))

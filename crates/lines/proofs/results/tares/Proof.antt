@@ -30,7 +30,7 @@ array-copy-out-w : tie.Need-array-copy-out-w Inv-loop μ-loop
 array-copy-out-w c = omega (arith, c .before .before .pre .few)
 
 loop-again : tie.Need-loop-again Inv-loop μ-loop
-loop-again c = 
+loop-again c =
     let inside = c .before .before .loop-test .taken in
     summed-more (c .before .before .before .loop .inv) inside
     (within-greatest 0 4000000 _ (c .before .before .before .before .pre .each _ inside .tare))
@@ -49,12 +49,12 @@ loop-less c = omega (arith, loop-again c .past)
 
 returns : tie.Need-returns Inv-loop μ-loop
 unfolding tares
-returns c = 
+returns c =
     let all = c .before .loop .inv in
-    record
-    { is = summed-all all (c .loop-test .left)
-    ; low = omega arith
-    ; high = omega (arith, all .most, all .past, c .before .before .pre .few)
+    record {
+      is = summed-all all (c .loop-test .left);
+      low = omega arith;
+      high = omega (arith, all .most, all .past, c .before .before .pre .few);
     }
 
 pub tares-spec : {M : Type 1} → statement M

@@ -1,0 +1,73 @@
+-- A difference of two numbers that may be negative, as the machine's signed numbers hold it.
+use Prim.Native.Nat.{ℕ, zero, suc, _+_, _-_, _^_, _≤_, _<_}
+use mathlib.Core.Path.{_≡_, refl, sym, _∙_, ap, ap₂, subst⁻¹}
+use mathlib.Core.Bool.{true, false, true≢false}
+use native.Mathlib.Nat.{add-zero, sub-zero, lt-of-not-le}
+use native.Mathlib.Decide.{decLe}
+use native.Mathlib.Omega.{arith}
+use borrow.Author.Tests.{ltb-true, lt-ltb, le-ltb}
+use lib.IntN.{ℤ, pos, negsuc, subℕ, pos-ne-negsuc, _-ℤ_}
+use lib.Signed.{mag, ltZ}
+use mir.Facts.{toZ-ofZ, toZ-pos}
+use mir.Syntax.{w64}
+use mir.Val.{SFits, toZ, ofZ}
+use Rattle.lines.specs.Promise.{CatchOk}
+
+-- The difference of two numbers is taken as signed numbers are
+sub-signed : (a b : ℕ) → pos a -ℤ pos b ≡ subℕ a b
+sub-signed a zero = rw (add-zero, le-ltb a 0 (omega arith), sub-zero)
+sub-signed a (suc b) = refl
+
+pub difference : (a b : ℕ) → a < 2 ^ 63 → b < 2 ^ 63 → toZ w64 a -ℤ toZ w64 b ≡ subℕ a b
+difference a b ha hb = ap₂ _-ℤ_ (toZ-pos w64 ha) (toZ-pos w64 hb) ∙ sub-signed a b
+
+-- and lies in the catch's range where both do
+pub catch-ok : (a b : ℕ) → a ≤ 32000000 → b ≤ 32000099 → CatchOk (subℕ a b)
+catch-ok a b ha hb = go (decLe b a)
+  where
+    above : b ≤ a → CatchOk (pos (a - b))
+    above h =
+        record {
+          most = λ n e. let same : a - b ≡ n = cc in omega arith;
+          least = λ n e. absurd (pos-ne-negsuc _ n e);
+        }
+
+    below : a < b → CatchOk (negsuc (b - suc a))
+    below h =
+        record {
+          most = λ n e. absurd (pos-ne-negsuc n _ (sym e));
+          least = λ n e. let same : b - suc a ≡ n = cc in omega arith;
+        }
+
+    go : Dec (b ≤ a) → CatchOk (subℕ a b)
+    go (yes h) = rw (le-ltb a b h) (above h)
+    go (no f) = rw (lt-ltb a b (lt-of-not-le f)) (below (lt-of-not-le f))
+
+pub catch-fits : (z : ℤ) → CatchOk z → SFits w64 z
+catch-fits (pos n) ok = record { sfits = omega (arith, ok .most n refl) }
+catch-fits (negsuc n) ok = record { sfits = omega (arith, ok .least n refl) }
+
+-- a catch that is below zero, and one that is not
+pub record Caught (z : ℤ) : Type 0 where
+  pub weight : ℕ
+  pub is : z ≡ pos weight
+  pub bits : toZ w64 (ofZ w64 z) ≡ pos weight
+  pub most : weight ≤ 32000000
+
+pub record Lost (z : ℤ) : Type 0 where
+  pub weight : ℕ
+  pub is : z ≡ negsuc weight
+
+below-zero : (z : ℤ) → ltZ z (pos 0) ≡ true → Lost z
+below-zero (pos n) e = let h : n < 0 = ltb-true n 0 e in absurd (omega arith)
+below-zero (negsuc n) e = record { weight = n; is = refl }
+
+from-zero : (z : ℤ) → CatchOk z → ltZ z (pos 0) ≡ false → Caught z
+from-zero (pos n) ok e = record { weight = n; is = refl; bits = toZ-ofZ (catch-fits (pos n) ok); most = ok .most n refl }
+from-zero (negsuc n) ok e = absurd (true≢false e)
+
+pub lost : (z : ℤ) → CatchOk z → ltZ (toZ w64 (ofZ w64 z)) (pos 0) ≡ true → Lost z
+lost z ok e = below-zero z (rw (toZ-ofZ (catch-fits z ok)) at e)
+
+pub caught : (z : ℤ) → CatchOk z → ltZ (toZ w64 (ofZ w64 z)) (pos 0) ≡ false → Caught z
+caught z ok e = from-zero z ok (rw (toZ-ofZ (catch-fits z ok)) at e)
