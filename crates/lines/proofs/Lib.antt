@@ -8,3 +8,4 @@ pub mod FlowLaws
 pub mod SamplingLaws
 pub mod CatchLaws
 pub mod SheetLaws
+pub mod Starred

@@ -4,3 +4,4 @@ pub mod Metering
 pub mod Stack
 pub mod Sampling
 pub mod Sheet
+pub mod Starred
