@@ -58,7 +58,7 @@ fn main() -> ExitCode {
 
 fn arguments() -> Result<Arguments, String> {
     let mut arguments = Arguments {
-        sheet: std::env::var_os("SHEET").map(PathBuf::from),
+        sheet: None,
         library_only: false,
     };
     let mut words = std::env::args_os().skip(1);
@@ -73,9 +73,15 @@ fn arguments() -> Result<Arguments, String> {
         }
     }
     if arguments.library_only && arguments.sheet.is_some() {
-        return Err("Give either --library-only or a sheet program, not both.".into());
+        return Err("Give either --library-only or --sheet, not both.".into());
     }
-    Ok(arguments)
+    if !arguments.library_only && arguments.sheet.is_none() {
+        arguments.sheet = std::env::var_os("SHEET").map(PathBuf::from);
+    }
+    match &arguments.sheet {
+        Some(path) if !path.is_file() => Err(format!("There is no program {}.", path.display())),
+        _ => Ok(arguments),
+    }
 }
 
 /// Answers what should have been reached and was not.

@@ -57,7 +57,7 @@ fn fewer_in_run(subject: &mut Subject, r: usize, parts: Parts) -> bool {
     for p in (0..subject.job.runs[r].points.len()).rev() {
         any |= attempt(subject, parts, |s| remove_point(&mut s.job.runs[r], p));
     }
-    for k in (1..subject.job.runs[r].segments.len()).rev() {
+    for k in (0..subject.job.runs[r].segments.len()).rev() {
         any |= attempt(subject, parts, |s| join_segment(&mut s.job.runs[r], k));
     }
     for w in (0..subject.job.runs[r].weighings.len()).rev() {
@@ -83,9 +83,43 @@ fn remove_point(run: &mut Run, p: usize) {
     }
 }
 
-/// Gives a segment's seconds to the one before it, if they fit.
+/// Gives a segment's seconds to the one before it, or the first one's to the
+/// next; a segment alone goes for good.
 fn join_segment(run: &mut Run, k: usize) {
     let seconds = run.segments.remove(k).seconds;
-    let before = &mut run.segments[k - 1].seconds;
-    *before = before.saturating_add(seconds);
+    if let Some(neighbor) = run.segments.get_mut(k.saturating_sub(1)) {
+        neighbor.seconds = neighbor.seconds.saturating_add(seconds);
+    }
+}
+
+#[cfg(test)]
+mod tests {
+    use independent::{read, samples};
+
+    use super::*;
+    use crate::case::Change;
+
+    #[test]
+    fn keeps_only_what_the_sides_part_on() {
+        let mut job = samples::longest();
+        job.runs[3].points[40].velocity_head = 9_999;
+        job.runs[3].segments[2].leak = 777;
+        let changes = vec![Change::Append(vec![1, 2, 3])];
+        let parts = |bytes: &[u8]| {
+            let bytes = bytes.strip_suffix(&[1, 2, 3]).unwrap_or(bytes);
+            read(bytes).is_ok_and(|job| {
+                job.runs.iter().any(|run| {
+                    run.points.iter().any(|point| point.velocity_head == 9_999)
+                        && run.segments.iter().any(|segment| segment.leak == 777)
+                })
+            })
+        };
+        let small = smallest(Subject { job, changes }, &parts);
+        assert!(small.changes.is_empty() && small.job.certificates.is_empty());
+        let [run] = &small.job.runs[..] else {
+            panic!("one run stays");
+        };
+        let counts = (run.points.len(), run.segments.len(), run.weighings.len());
+        assert_eq!(counts, (1, 1, 0));
+    }
 }

@@ -1,5 +1,7 @@
 //! The same calls over Rust types: what succeeded, or a refusal.
 
+use std::fmt;
+
 use crate::plain;
 
 pub const LINE_COUNT: usize = 20;
@@ -24,6 +26,14 @@ pub struct Refusal {
     pub number: u32,
     pub place: u32,
 }
+
+impl fmt::Display for Refusal {
+    fn fmt(&self, f: &mut fmt::Formatter) -> fmt::Result {
+        write!(f, "refusal {} at {}", self.number, self.place)
+    }
+}
+
+impl std::error::Error for Refusal {}
 
 #[derive(Clone, Copy, Debug, PartialEq, Eq)]
 pub enum Class {
