@@ -2,6 +2,15 @@
 
 use std::fmt;
 
+/// What a reduced run's outputs take.
+pub const LINE_COUNT: usize = 20;
+pub const LINE_LENGTH: usize = 9;
+pub const LINES_LENGTH: usize = LINE_COUNT * LINE_LENGTH;
+pub const FINDING_LENGTH: usize = 4;
+
+/// Added to the number of findings of an accepted run.
+const ACCEPTED: u32 = 65_536;
+
 /// Bytes kept around each lent output; neither side may change them.
 const GUARD: usize = 32;
 
@@ -71,6 +80,16 @@ impl Outcome {
     /// What succeeded, or the refusal's place.
     pub fn value(&self) -> u32 {
         self.answer as u32
+    }
+
+    /// How many findings a successful reduce wrote.
+    pub fn findings(&self) -> usize {
+        (self.value() % ACCEPTED) as usize
+    }
+
+    /// Whether a successful reduce accepted the run.
+    pub fn accepted(&self) -> bool {
+        self.value() >= ACCEPTED
     }
 
     /// The lent bytes of the call's output of that index, without guards.

@@ -5,16 +5,12 @@ use std::io::{self, Write};
 use std::path::Path;
 use std::process::{Command, Stdio};
 
-use crate::call::{Call, Difference};
+use crate::call::{Call, Difference, FINDING_LENGTH, LINES_LENGTH};
 use crate::tally::Tally;
 
-const LINES_LENGTH: usize = 180;
-const FINDING_LENGTH: usize = 4;
-const ACCEPTED: u32 = 65_536;
-
-/// Room for the findings of any run and then some.
-pub const ROOMY_FINDINGS: usize = FINDING_LENGTH * 110;
-pub const ROOMY_LINES: usize = LINES_LENGTH + 11;
+/// Room for the lines and findings of any run, and then some.
+const ROOMY_LINES: usize = LINES_LENGTH + 11;
+const ROOMY_FINDINGS: usize = FINDING_LENGTH * 110;
 
 /// Compares every call on the job. Answers the number of its refusal, 0 if it
 /// is read.
@@ -59,7 +55,7 @@ fn reduced(job: &[u8], run: u16, tally: &mut Tally) -> Result<(), Difference> {
     };
     let roomy = reduce(ROOMY_LINES, ROOMY_FINDINGS).agreed(job)?;
     tally.count_reduced(&roomy);
-    let needed = FINDING_LENGTH * (roomy.value() % ACCEPTED) as usize;
+    let needed = FINDING_LENGTH * roomy.findings();
     tally.count(&reduce(LINES_LENGTH, needed).agreed(job)?);
     tally.count(&reduce(LINES_LENGTH - 1, needed).agreed(job)?);
     if needed > 0 {

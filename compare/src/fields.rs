@@ -6,6 +6,9 @@ use independent::job::{Point, Run, Segment, Weighing};
 
 use crate::random::Random;
 
+/// The numbers of points a rectangular stack may have.
+pub const RECTANGULAR_COUNTS: [u16; 9] = [9, 12, 16, 20, 25, 30, 36, 42, 49];
+
 pub struct Field<T> {
     pub least: i64,
     pub greatest: i64,

@@ -3,14 +3,10 @@
 
 use std::fmt;
 
-use crate::call::Outcome;
+use crate::call::{Outcome, FINDING_LENGTH, LINES_LENGTH, LINE_COUNT, LINE_LENGTH};
 
-const LINE_LENGTH: usize = 9;
-const LINE_COUNT: usize = 20;
-const FINDING_LENGTH: usize = 4;
 const RULES: usize = 20;
 const REFUSALS: usize = 11;
-const ACCEPTED: u32 = 65_536;
 
 /// Rule 13 cannot occur: of all readings in range, line 3 at 1, Y at 0.9, line
 /// 4 at 200,000 and line 5 at 6,100 give the least line 6, and it is 1.
@@ -59,7 +55,7 @@ impl Tally {
             return;
         }
         let rules = self.count_findings(outcome);
-        let lines: Vec<Option<i64>> = outcome.output(0)[..LINE_COUNT * LINE_LENGTH]
+        let lines: Vec<Option<i64>> = outcome.output(0)[..LINES_LENGTH]
             .chunks(LINE_LENGTH)
             .map(line)
             .collect();
@@ -75,14 +71,16 @@ impl Tally {
     }
 
     fn count_findings(&mut self, outcome: &Outcome) -> Vec<u8> {
-        if outcome.value() >= ACCEPTED {
+        if outcome.accepted() {
             self.accepted += 1;
         } else {
             self.void += 1;
         }
-        let found = (outcome.value() % ACCEPTED) as usize;
-        let findings = outcome.output(1)[..found * FINDING_LENGTH].chunks(FINDING_LENGTH);
-        let mut rules: Vec<u8> = findings.map(|finding| finding[0]).collect();
+        let findings = outcome.output(1).chunks(FINDING_LENGTH);
+        let mut rules: Vec<u8> = findings
+            .take(outcome.findings())
+            .map(|finding| finding[0])
+            .collect();
         for &rule in &rules {
             self.rules[usize::from(rule)] += 1;
         }

@@ -2,6 +2,12 @@
 
 use crate::job::{Run, Shape};
 
+/// The narrowest stack sampled without a fault, and laid out at all: 12 in.
+pub const LEAST_DIAMETER: u16 = 120;
+
+/// The widest stack that counts as small: 24 in.
+pub const GREATEST_SMALL_DIAMETER: u16 = 240;
+
 /// 0.1 in. A rectangle's 2LW/(L+W) is kept as its two whole numbers.
 #[derive(Clone, Copy)]
 pub struct Diameter {

@@ -1,8 +1,9 @@
 //! The findings of a run, by rule and then by place.
 
 use crate::certificates::Chosen;
-use crate::diameter::Diameter;
+use crate::diameter::{Diameter, GREATEST_SMALL_DIAMETER, LEAST_DIAMETER};
 use crate::job::{Run, Shape, WeighingKind};
+use crate::layout::grid;
 use crate::leak;
 use crate::lines::Lines;
 
@@ -24,10 +25,6 @@ const WIDEST_WEIGHT_DIFFERENCE: u32 = 5;
 /// Percent isokinetic, 0.01 percent.
 const LEAST_ISOKINETIC: i64 = 9_000;
 const GREATEST_ISOKINETIC: i64 = 11_000;
-
-/// Stack diameters, 0.1 in.
-const LEAST_DIAMETER: u16 = 120;
-const GREATEST_SMALL_DIAMETER: u16 = 240;
 
 #[derive(Clone, Copy, Debug, PartialEq, Eq)]
 pub struct Finding {
@@ -121,10 +118,10 @@ fn points_suffice(run: &Run, diameter: Diameter) -> bool {
         (false, _, Shape::Round) => 24,
         (false, _, Shape::Rectangular) => 25,
     };
-    let points = run.points.len();
+    let points = run.points.len() as u16;
     let allowed = match run.shape {
         Shape::Round => points.is_multiple_of(4),
-        Shape::Rectangular => matches!(points, 9 | 12 | 16 | 20 | 25 | 30 | 36 | 42 | 49),
+        Shape::Rectangular => grid(points).is_some(),
     };
     allowed && points >= least
 }

@@ -2,25 +2,19 @@
 
 use crate::answer::{Reason, Refusal};
 use crate::arithmetic::rounded;
-use crate::diameter::Diameter;
+use crate::diameter::{Diameter, GREATEST_SMALL_DIAMETER, LEAST_DIAMETER};
 
 const DISTANCE_LENGTH: usize = 4;
-
-/// The largest diameter that counts as small, 0.1 in.
-const GREATEST_SMALL_DIAMETER: u16 = 240;
 
 /// The least distance from a wall, 0.001 in.
 const WALL: u16 = 1_000;
 const WALL_OF_SMALL: u16 = 500;
 
-/// The least diameter of a rectangle, 0.1 in.
-const LEAST_DIAMETER: u16 = 120;
-
 /// The distances of the points on one diameter, 0.001 in, from the near wall.
 pub fn round_distances(points: u16, diameter: u16, nozzle: u16) -> Result<Vec<u32>, Refusal> {
     let in_range = (2..=24).contains(&points)
         && points.is_multiple_of(2)
-        && (120..=9_999).contains(&diameter)
+        && (LEAST_DIAMETER..=9_999).contains(&diameter)
         && (100..=1_000).contains(&nozzle);
     if !in_range {
         return Err(Refusal::new(Reason::LayoutOutOfRange, 0));
@@ -45,9 +39,9 @@ pub fn round_distances(points: u16, diameter: u16, nozzle: u16) -> Result<Vec<u3
 }
 
 /// The i-th point's share of the diameter, in 1/1,000: the one p below 500 with
-/// (999-2p)²·n < 10^6·(n-2i+1) < (1001-2p)²·n. No p at 500 or above fits, since
-/// the outer square is then not the larger one; and the middle is never equal
-/// to either end, since it has too few factors of 2 for an n up to 24.
+/// (999-2p)²·n < 10^6·(n-2i+1) < (1001-2p)²·n. From 500 on the right square is
+/// not above the left one, so no other p fits; and one always does, since the
+/// middle, a multiple of 64, is never an odd square times an n below 64.
 fn position(points: u16, i: u16) -> i64 {
     let (n, i) = (i64::from(points), i64::from(i));
     let middle = 1_000_000 * (n - 2 * i + 1);
@@ -84,8 +78,9 @@ pub fn rect_distances(points: u16, first: u16, second: u16) -> Result<Vec<[u32; 
         .collect())
 }
 
-/// The cells of a rectangle, the larger count first.
-fn grid(points: u16) -> Option<(u16, u16)> {
+/// The cells of a rectangle with so many points, the larger count first; `None`
+/// for a number that no rectangle has.
+pub fn grid(points: u16) -> Option<(u16, u16)> {
     match points {
         9 => Some((3, 3)),
         12 => Some((4, 3)),

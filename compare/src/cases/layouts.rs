@@ -2,6 +2,7 @@
 //! diameter once, and outputs of every length for the largest of each kind.
 
 use crate::call::{Call, Difference};
+use crate::fields::RECTANGULAR_COUNTS;
 use crate::random::Random;
 use crate::tally::Tally;
 
@@ -106,7 +107,7 @@ fn random_rectangles(tally: &mut Tally) -> Result<(), Difference> {
     for k in 0..RANDOM_RECTANGLES {
         let mut random = Random::new(SEED + k);
         let call = Call::RectLayout {
-            points: random.pick(&[9, 12, 16, 20, 25, 30, 36, 42, 49]),
+            points: random.pick(&RECTANGULAR_COUNTS),
             first: random.near_ends(1, 9_999) as u16,
             second: random.near_ends(1, 9_999) as u16,
             out_len: ROOMY,

@@ -4,11 +4,9 @@
 use independent::job::{Job, Shape, WeighingKind};
 use independent::samples;
 
-use crate::call::{Call, Difference};
+use crate::call::{Call, Difference, FINDING_LENGTH, LINES_LENGTH};
 use crate::tally::Tally;
 
-const FINDING_LENGTH: usize = 4;
-const LINES_LENGTH: usize = 180;
 const MOST_LINES: usize = LINES_LENGTH + 2;
 
 pub struct Lengths {

@@ -4,15 +4,13 @@ use independent::job::*;
 use independent::samples;
 
 use super::{Style, MOST_METERED};
-use crate::fields::{POINT, RUN, SEGMENT_LEAK, WEIGHING};
+use crate::fields::{POINT, RECTANGULAR_COUNTS, RUN, SEGMENT_LEAK, WEIGHING};
 use crate::random::Random;
 
 const MOST_POINTS: usize = 64;
 const MOST_SEGMENTS: usize = 16;
 const MOST_WEIGHINGS: usize = 8;
 const LONGEST_RUN: i64 = 36_000;
-
-const RECTANGULAR_COUNTS: [usize; 9] = [9, 12, 16, 20, 25, 30, 36, 42, 49];
 
 pub fn run(random: &mut Random, number: u16, style: Style) -> Run {
     let calm = samples::worked().runs.remove(0);
@@ -115,7 +113,7 @@ fn point_count(random: &mut Random, shape: Shape, style: Style) -> usize {
     }
     match shape {
         Shape::Round => random.pick(&[4, 8, 8, 12, 16, 20, 24, 24, 28, 36, 64]),
-        Shape::Rectangular => random.pick(&RECTANGULAR_COUNTS),
+        Shape::Rectangular => usize::from(random.pick(&RECTANGULAR_COUNTS)),
     }
 }
 
