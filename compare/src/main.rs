@@ -102,7 +102,7 @@ fn compared(arguments: &Arguments) -> Result<Vec<String>, Failure> {
 
     all.add(&Section::new("longest jobs").library(cases::longest::cases())?);
     all.add(&Section::new("output lengths").outputs(cases::outputs::cases())?);
-    all.add(&Section::new("layouts").layouts()?);
+    all.add(&Section::new("layouts").layouts(cases::layouts::calls())?);
     println!("all refusals: {}", all.refusals_text());
 
     if let Some(program) = &arguments.sheet {

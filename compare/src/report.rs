@@ -7,16 +7,18 @@ use crate::call::{hex, Difference};
 
 pub struct Failure {
     pub case: String,
-    /// Empty for calls that take none.
-    pub job: Vec<u8>,
+    /// None for calls that take no job.
+    pub job: Option<Vec<u8>>,
     pub difference: Difference,
 }
 
 impl fmt::Display for Failure {
     fn fmt(&self, f: &mut fmt::Formatter) -> fmt::Result {
         writeln!(f, "DISAGREEMENT in {}", self.case)?;
-        writeln!(f, "smallest job found, {} bytes:", self.job.len())?;
-        writeln!(f, "  {}", hex(&self.job))?;
+        if let Some(job) = &self.job {
+            writeln!(f, "smallest job found, {} bytes:", job.len())?;
+            writeln!(f, "  {}", hex(job))?;
+        }
         writeln!(f, "on {}", self.difference.what)?;
         writeln!(f, "proved: {}", self.difference.proved)?;
         write!(f, "independent: {}", self.difference.independent)

@@ -4,9 +4,9 @@
 use std::path::Path;
 use std::time::Instant;
 
-use crate::call::Difference;
-use crate::case::Case;
-use crate::cases::{layouts, outputs};
+use crate::call::{Call, Difference};
+use crate::case::{Case, Expected};
+use crate::cases::outputs::Outputs;
 use crate::check;
 use crate::report::Failure;
 use crate::shrink::smallest;
@@ -34,7 +34,7 @@ impl Section {
             let refusal = check::library(&case.subject.bytes(), &mut self.tally)
                 .map_err(|difference| shrunk(&case, difference, &compared))?;
             if !case.expected.admits(refusal) {
-                return Err(unexpected(&case, refusal));
+                return Err(unexpected(&case, "reading", case.expected, refusal));
             }
         }
         Ok(self.done())
@@ -57,23 +57,36 @@ impl Section {
         Ok(())
     }
 
-    pub fn outputs(mut self, cases: Vec<outputs::Lengths>) -> Result<Tally, Failure> {
-        for lengths in cases {
-            outputs::compare(&lengths, &mut self.tally).map_err(|difference| Failure {
-                case: lengths.name.clone(),
-                job: lengths.job.bytes(),
-                difference,
-            })?;
+    /// Compares the library with outputs of many lengths.
+    pub fn outputs(mut self, cases: Vec<Outputs>) -> Result<Tally, Failure> {
+        for outputs in cases {
+            let job = outputs.case.subject.bytes();
+            for (call, expected) in outputs.calls() {
+                let outcome = call.agreed(&job).map_err(|difference| {
+                    shrunk(&outputs.case, difference, &|job| call.agreed(job).map(drop))
+                })?;
+                if !expected.admits(outcome.refusal()) {
+                    let what = format!("{call:?}");
+                    let refusal = outcome.refusal();
+                    return Err(unexpected(&outputs.case, &what, expected, refusal));
+                }
+                self.tally.count(&outcome);
+            }
+            self.tally.jobs += 1;
         }
         Ok(self.done())
     }
 
-    pub fn layouts(mut self) -> Result<Tally, Failure> {
-        layouts::compare(&mut self.tally).map_err(|difference| Failure {
-            case: "layouts".into(),
-            job: vec![],
-            difference,
-        })?;
+    /// Compares the library's layouts, which take no job.
+    pub fn layouts(mut self, calls: impl Iterator<Item = Call>) -> Result<Tally, Failure> {
+        for call in calls {
+            let outcome = call.agreed(&[]).map_err(|difference| Failure {
+                case: "layouts".into(),
+                job: None,
+                difference,
+            })?;
+            self.tally.count(&outcome);
+        }
         Ok(self.done())
     }
 
@@ -102,18 +115,19 @@ fn shrunk(case: &Case, difference: Difference, compared: Compared) -> Failure {
     let difference = compared(&job).err().unwrap_or(difference);
     Failure {
         case: case.name.clone(),
-        job,
+        job: Some(job),
         difference,
     }
 }
 
-fn unexpected(case: &Case, refusal: u32) -> Failure {
+/// Both sides agree, but not on what the case was made for.
+fn unexpected(case: &Case, what: &str, expected: Expected, refusal: u32) -> Failure {
     Failure {
         case: case.name.clone(),
-        job: case.subject.bytes(),
+        job: Some(case.subject.bytes()),
         difference: Difference {
-            what: format!("a job made so that {:?} is expected", case.expected),
-            proved: format!("refusal {refusal} (0 is read)"),
+            what: format!("{what}, where {expected:?} was to come"),
+            proved: format!("refusal {refusal} (0 is success)"),
             independent: "the same".into(),
         },
     }

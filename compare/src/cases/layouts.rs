@@ -1,10 +1,9 @@
 //! Traverse layouts: every count of points with sizes about every limit, every
 //! diameter once, and outputs of every length for the largest of each kind.
 
-use crate::call::{Call, Difference};
+use crate::call::Call;
 use crate::fields::RECTANGULAR_COUNTS;
 use crate::random::Random;
-use crate::tally::Tally;
 
 const SEED: u64 = 0x40_0000;
 const RANDOM_RECTANGLES: u64 = 20_000;
@@ -13,15 +12,15 @@ const DISTANCE_LENGTH: usize = 4;
 /// More than the largest layout needs: 49 cells of two distances.
 const ROOMY: usize = 2 * 49 * DISTANCE_LENGTH + 5;
 
-const DIAMETERS: [u16; 16] = [
+static DIAMETERS: [u16; 16] = [
     0, 1, 119, 120, 121, 200, 239, 240, 241, 242, 600, 4_321, 9_998, 9_999, 10_000, 65_535,
 ];
 
-const NOZZLES: [u16; 14] = [
+static NOZZLES: [u16; 14] = [
     0, 1, 99, 100, 101, 250, 499, 500, 501, 999, 1_000, 1_001, 1_002, 65_535,
 ];
 
-const SIDES: [u16; 30] = [
+static SIDES: [u16; 30] = [
     0, 1, 2, 59, 60, 61, 62, 79, 80, 81, 99, 100, 101, 119, 120, 121, 149, 150, 151, 239, 240, 241,
     333, 1_000, 4_321, 9_997, 9_998, 9_999, 10_000, 65_535,
 ];
@@ -29,112 +28,88 @@ const SIDES: [u16; 30] = [
 /// Counts outside every range, beside all that are near one.
 const FAR_COUNTS: [u16; 3] = [64, 256, 65_535];
 
-pub fn compare(tally: &mut Tally) -> Result<(), Difference> {
-    round_limits(tally)?;
-    every_diameter(tally)?;
-    rectangular_limits(tally)?;
-    random_rectangles(tally)?;
-    output_lengths(tally)
+pub fn calls() -> impl Iterator<Item = Call> {
+    round_limits()
+        .chain(every_diameter())
+        .chain(rectangular_limits())
+        .chain(random_rectangles())
+        .chain(output_lengths())
 }
 
-fn agreed(call: Call, tally: &mut Tally) -> Result<(), Difference> {
-    tally.count(&call.agreed(&[])?);
-    Ok(())
-}
-
-fn round_limits(tally: &mut Tally) -> Result<(), Difference> {
-    for points in (0..=26).chain(FAR_COUNTS) {
-        let needed = usize::from(points) * DISTANCE_LENGTH;
-        for diameter in DIAMETERS {
-            for nozzle in NOZZLES {
-                let lengths = [
-                    0,
-                    needed.min(ROOMY).saturating_sub(1),
-                    needed.min(ROOMY),
-                    ROOMY,
-                ];
-                for out_len in lengths {
-                    let call = Call::RoundLayout {
-                        points,
-                        diameter,
-                        nozzle,
-                        out_len,
-                    };
-                    agreed(call, tally)?;
-                }
-            }
-        }
-    }
-    Ok(())
-}
-
-fn every_diameter(tally: &mut Tally) -> Result<(), Difference> {
-    for diameter in 120..=9_999 {
-        for points in (2..=24).step_by(2) {
-            let call = Call::RoundLayout {
+fn round_limits() -> impl Iterator<Item = Call> {
+    (0..=26).chain(FAR_COUNTS).flat_map(|points| {
+        let needed = (usize::from(points) * DISTANCE_LENGTH).min(ROOMY);
+        let lengths = [0, needed.saturating_sub(1), needed, ROOMY];
+        pairs(&DIAMETERS, &NOZZLES).flat_map(move |(diameter, nozzle)| {
+            lengths.map(|out_len| Call::RoundLayout {
                 points,
                 diameter,
-                nozzle: 100 + diameter % 901,
-                out_len: usize::from(points) * DISTANCE_LENGTH,
-            };
-            agreed(call, tally)?;
-        }
-    }
-    Ok(())
+                nozzle,
+                out_len,
+            })
+        })
+    })
 }
 
-fn rectangular_limits(tally: &mut Tally) -> Result<(), Difference> {
-    for points in (0..=50).chain(FAR_COUNTS) {
-        let needed = 2 * usize::from(points) * DISTANCE_LENGTH;
-        for first in SIDES {
-            for second in SIDES {
-                for out_len in [needed.min(ROOMY).saturating_sub(1), ROOMY] {
-                    let call = Call::RectLayout {
-                        points,
-                        first,
-                        second,
-                        out_len,
-                    };
-                    agreed(call, tally)?;
-                }
-            }
-        }
-    }
-    Ok(())
+fn every_diameter() -> impl Iterator<Item = Call> {
+    (120..=9_999).flat_map(|diameter| {
+        let counts = (2..=24).step_by(2);
+        counts.map(move |points| Call::RoundLayout {
+            points,
+            diameter,
+            nozzle: 100 + diameter % 901,
+            out_len: usize::from(points) * DISTANCE_LENGTH,
+        })
+    })
 }
 
-fn random_rectangles(tally: &mut Tally) -> Result<(), Difference> {
-    for k in 0..RANDOM_RECTANGLES {
+fn rectangular_limits() -> impl Iterator<Item = Call> {
+    (0..=50).chain(FAR_COUNTS).flat_map(|points| {
+        let needed = (2 * usize::from(points) * DISTANCE_LENGTH).min(ROOMY);
+        pairs(&SIDES, &SIDES).flat_map(move |(first, second)| {
+            [needed.saturating_sub(1), ROOMY].map(|out_len| Call::RectLayout {
+                points,
+                first,
+                second,
+                out_len,
+            })
+        })
+    })
+}
+
+fn pairs(firsts: &'static [u16], seconds: &'static [u16]) -> impl Iterator<Item = (u16, u16)> {
+    firsts
+        .iter()
+        .flat_map(|&first| seconds.iter().map(move |&second| (first, second)))
+}
+
+fn random_rectangles() -> impl Iterator<Item = Call> {
+    (0..RANDOM_RECTANGLES).map(|k| {
         let mut random = Random::new(SEED + k);
-        let call = Call::RectLayout {
+        Call::RectLayout {
             points: random.pick(&RECTANGULAR_COUNTS),
             first: random.near_ends(1, 9_999) as u16,
             second: random.near_ends(1, 9_999) as u16,
             out_len: ROOMY,
-        };
-        agreed(call, tally)?;
-    }
-    Ok(())
+        }
+    })
 }
 
-fn output_lengths(tally: &mut Tally) -> Result<(), Difference> {
-    for out_len in 0..=ROOMY {
-        let (points, diameter, nozzle) = (24, 600, 250);
-        let round = Call::RoundLayout {
-            points,
-            diameter,
-            nozzle,
-            out_len,
-        };
-        agreed(round, tally)?;
-        let (points, first, second) = (49, 300, 400);
-        let rectangular = Call::RectLayout {
-            points,
-            first,
-            second,
-            out_len,
-        };
-        agreed(rectangular, tally)?;
-    }
-    Ok(())
+fn output_lengths() -> impl Iterator<Item = Call> {
+    (0..=ROOMY).flat_map(|out_len| {
+        [
+            Call::RoundLayout {
+                points: 24,
+                diameter: 600,
+                nozzle: 250,
+                out_len,
+            },
+            Call::RectLayout {
+                points: 49,
+                first: 300,
+                second: 400,
+                out_len,
+            },
+        ]
+    })
 }

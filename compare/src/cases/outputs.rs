@@ -4,51 +4,63 @@
 use independent::job::{Job, Shape, WeighingKind};
 use independent::samples;
 
-use crate::call::{Call, Difference, FINDING_LENGTH, LINES_LENGTH};
-use crate::tally::Tally;
+use crate::call::{Call, FINDING_LENGTH, LINES_LENGTH};
+use crate::case::{Case, Expected};
 
 const MOST_LINES: usize = LINES_LENGTH + 2;
 
-pub struct Lengths {
-    pub name: String,
-    pub job: Job,
+/// A run and the number of its findings, to be reduced into many outputs.
+pub struct Outputs {
+    pub case: Case,
     run: u16,
     findings: usize,
     /// Whether every length of one output meets every length of the other.
     crossed: bool,
 }
 
-pub fn cases() -> Vec<Lengths> {
+pub fn cases() -> Vec<Outputs> {
+    let outputs = |name: &str, job, run, findings, crossed| Outputs {
+        case: Case::of_job(name.into(), job, Expected::Read),
+        run,
+        findings,
+        crossed,
+    };
+    let several = samples::several_runs;
     vec![
-        Lengths {
-            name: "outputs of a run with one finding".into(),
-            job: samples::worked(),
-            run: 7,
-            findings: 1,
-            crossed: true,
-        },
-        Lengths {
-            name: "outputs of a run without findings".into(),
-            job: samples::several_runs(),
-            run: 1,
-            findings: 0,
-            crossed: true,
-        },
-        Lengths {
-            name: "outputs of a run with seven findings".into(),
-            job: samples::several_runs(),
-            run: 20,
-            findings: 7,
-            crossed: true,
-        },
-        Lengths {
-            name: "outputs of a run with the most findings".into(),
-            job: fullest(),
-            run: 7,
-            findings: 98,
-            crossed: false,
-        },
+        outputs("a run with one finding", samples::worked(), 7, 1, true),
+        outputs("a run without findings", several(), 1, 0, true),
+        outputs("a run with seven findings", several(), 20, 7, true),
+        outputs("a run with the most findings", fullest(), 7, 98, false),
     ]
+}
+
+impl Outputs {
+    /// The calls, each refused with 9 exactly if either output is too short.
+    pub fn calls(&self) -> Vec<(Call, Expected)> {
+        let needed = FINDING_LENGTH * self.findings;
+        let mut calls = Vec::new();
+        for lines_len in (0..=MOST_LINES).filter(|&length| self.crossed || is_telling(length)) {
+            for findings_len in 0..=needed + FINDING_LENGTH + 1 {
+                let call = Call::Reduce {
+                    run: self.run,
+                    lines_len,
+                    findings_len,
+                };
+                let too_short = lines_len < LINES_LENGTH || findings_len < needed;
+                let expected = if too_short {
+                    Expected::Refused(9)
+                } else {
+                    Expected::Read
+                };
+                calls.push((call, expected));
+            }
+        }
+        calls
+    }
+}
+
+fn is_telling(lines_len: usize) -> bool {
+    lines_len == 0 || lines_len >= LINES_LENGTH - 1
 }
 
 /// No run can have more findings: no certificate (1 to 4), a stack too narrow,
@@ -78,36 +90,4 @@ fn fullest() -> Job {
         weighing.second_final = weighing.tare - 6;
     }
     job
-}
-
-/// Compares every pair of lengths, and checks which of them are refused.
-pub fn compare(lengths: &Lengths, tally: &mut Tally) -> Result<(), Difference> {
-    let job = lengths.job.bytes();
-    let needed = FINDING_LENGTH * lengths.findings;
-    tally.jobs += 1;
-    for lines_len in 0..=MOST_LINES {
-        let telling = lines_len == 0 || lines_len >= LINES_LENGTH - 1;
-        if !lengths.crossed && !telling {
-            continue;
-        }
-        for findings_len in 0..=needed + FINDING_LENGTH + 1 {
-            let run = lengths.run;
-            let call = Call::Reduce {
-                run,
-                lines_len,
-                findings_len,
-            };
-            let outcome = call.agreed(&job)?;
-            let too_short = lines_len < LINES_LENGTH || findings_len < needed;
-            if (outcome.refusal() == 9) != too_short {
-                return Err(Difference {
-                    what: format!("{call:?} with {needed} bytes of findings"),
-                    proved: outcome.to_string(),
-                    independent: "the same, against the case's own count".into(),
-                });
-            }
-            tally.count(&outcome);
-        }
-    }
-    Ok(())
 }
