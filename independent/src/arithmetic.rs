@@ -1,7 +1,7 @@
 //! Rounded division and the nearest whole square root.
 
 /// The quotient to the nearest whole number, halves upward (-1/2 gives 0).
-/// The denominator is above 0.
+/// The denominator is above 0, and the quotient of every line fits an i64.
 pub fn rounded(numerator: i128, denominator: i128) -> i64 {
     (numerator + denominator / 2).div_euclid(denominator) as i64
 }
