@@ -1,0 +1,121 @@
+//! Timing one job on both sides, batch by batch.
+
+use std::fmt;
+use std::hint::black_box;
+use std::time::{Duration, Instant};
+
+const BATCHES: usize = 1_001;
+
+/// How long the independent side's part of a batch should last: short, so that
+/// few batches share their core with something else.
+const BATCH: Duration = Duration::from_micros(200);
+
+const LINES_LENGTH: usize = 180;
+
+/// Enough for any run: 4 bytes for each of 105 findings.
+const FINDINGS_LENGTH: usize = 420;
+
+pub struct Subject {
+    pub name: &'static str,
+    pub job: Vec<u8>,
+    pub run: u16,
+}
+
+type Reduce = fn(&[u8], u16, &mut [u8], &mut [u8]) -> u64;
+
+struct Buffers {
+    lines: [u8; LINES_LENGTH],
+    findings: [u8; FINDINGS_LENGTH],
+}
+
+/// A row of the table.
+pub struct Measured {
+    name: &'static str,
+    proved: f64,
+    independent: f64,
+    ratios: Vec<f64>,
+}
+
+pub fn measured(subject: &Subject) -> Measured {
+    let mut buffers = Buffers {
+        lines: [0; LINES_LENGTH],
+        findings: [0; FINDINGS_LENGTH],
+    };
+    assert_eq!(
+        called(leverbonnet::reduce, subject, &mut buffers),
+        called(independent::reduce, subject, &mut buffers),
+        "the two sides answer alike"
+    );
+    let calls = calls_per_batch(subject, &mut buffers);
+    let mut proved = Vec::with_capacity(BATCHES);
+    let mut independent = Vec::with_capacity(BATCHES);
+    for batch in 0..BATCHES {
+        let mut time_proved = |buffers: &mut Buffers| {
+            proved.push(nanoseconds(leverbonnet::reduce, subject, buffers, calls));
+        };
+        // Who goes first changes from batch to batch.
+        if batch % 2 == 0 {
+            time_proved(&mut buffers);
+        }
+        let taken = nanoseconds(independent::reduce, subject, &mut buffers, calls);
+        independent.push(taken);
+        if batch % 2 == 1 {
+            time_proved(&mut buffers);
+        }
+    }
+    let pairs = proved.iter().zip(&independent);
+    Measured {
+        name: subject.name,
+        ratios: pairs.map(|(ours, theirs)| ours / theirs).collect(),
+        proved: at_percent(&mut proved, 50),
+        independent: at_percent(&mut independent, 50),
+    }
+}
+
+fn called(reduce: Reduce, subject: &Subject, buffers: &mut Buffers) -> u64 {
+    black_box(reduce(
+        black_box(&subject.job),
+        black_box(subject.run),
+        &mut buffers.lines,
+        &mut buffers.findings,
+    ))
+}
+
+/// Nanoseconds a call, over that many.
+fn nanoseconds(reduce: Reduce, subject: &Subject, buffers: &mut Buffers, calls: u32) -> f64 {
+    let started = Instant::now();
+    for _ in 0..calls {
+        called(reduce, subject, buffers);
+        black_box(&buffers.lines);
+    }
+    started.elapsed().as_nanos() as f64 / f64::from(calls)
+}
+
+fn calls_per_batch(subject: &Subject, buffers: &mut Buffers) -> u32 {
+    let mut calls = 1;
+    loop {
+        let taken = nanoseconds(independent::reduce, subject, buffers, calls) * f64::from(calls);
+        if taken >= BATCH.as_nanos() as f64 {
+            return calls;
+        }
+        calls *= 2;
+    }
+}
+
+/// The value with so many percent of the values below it.
+fn at_percent(values: &mut [f64], percent: usize) -> f64 {
+    values.sort_by(f64::total_cmp);
+    values[(values.len() - 1) * percent / 100]
+}
+
+impl fmt::Display for Measured {
+    fn fmt(&self, f: &mut fmt::Formatter) -> fmt::Result {
+        let mut ratios = self.ratios.clone();
+        let [low, median, high] = [10, 50, 90].map(|percent| at_percent(&mut ratios, percent));
+        write!(
+            f,
+            "| {} | {:.0} | {:.0} | {median:.2} | {low:.2} to {high:.2} |",
+            self.name, self.proved, self.independent
+        )
+    }
+}

@@ -1,0 +1,9 @@
+//! The cases, one file for each kind.
+
+pub mod damaged;
+pub mod layouts;
+pub mod longest;
+pub mod outputs;
+pub mod random;
+pub mod sheet;
+pub mod worked;

@@ -1,0 +1,93 @@
+//! Outputs of every length about the need, for runs with no finding, with few
+//! and with many.
+
+use independent::job::{Job, Shape, WeighingKind};
+use independent::samples;
+
+use crate::call::{Call, FINDING_LENGTH, LINES_LENGTH};
+use crate::case::{Case, Expected};
+
+const MOST_LINES: usize = LINES_LENGTH + 2;
+
+/// A run and the number of its findings, to be reduced into many outputs.
+pub struct Outputs {
+    pub case: Case,
+    run: u16,
+    findings: usize,
+    /// Whether every length of one output meets every length of the other.
+    crossed: bool,
+}
+
+pub fn cases() -> Vec<Outputs> {
+    let outputs = |name: &str, job, run, findings, crossed| Outputs {
+        case: Case::of_job(name.into(), job, Expected::Read),
+        run,
+        findings,
+        crossed,
+    };
+    let several = samples::several_runs;
+    vec![
+        outputs("a run with one finding", samples::worked(), 7, 1, true),
+        outputs("a run without findings", several(), 1, 0, true),
+        outputs("a run with seven findings", several(), 20, 7, true),
+        outputs("a run with the most findings", fullest(), 7, 98, false),
+    ]
+}
+
+impl Outputs {
+    /// The calls, each refused with 9 exactly if either output is too short.
+    pub fn calls(&self) -> Vec<(Call, Expected)> {
+        let needed = FINDING_LENGTH * self.findings;
+        let mut calls = Vec::new();
+        for lines_len in (0..=MOST_LINES).filter(|&length| self.crossed || is_telling(length)) {
+            for findings_len in 0..=needed + FINDING_LENGTH + 1 {
+                let call = Call::Reduce {
+                    run: self.run,
+                    lines_len,
+                    findings_len,
+                };
+                let too_short = lines_len < LINES_LENGTH || findings_len < needed;
+                let expected = if too_short {
+                    Expected::Refused(9)
+                } else {
+                    Expected::Read
+                };
+                calls.push((call, expected));
+            }
+        }
+        calls
+    }
+}
+
+fn is_telling(lines_len: usize) -> bool {
+    lines_len == 0 || lines_len >= LINES_LENGTH - 1
+}
+
+/// No run can have more findings: no certificate (1 to 4), a stack too narrow,
+/// disturbed and with a wrong number of points (7 to 9), all 64 points short
+/// (10), all 16 segments leaking (11), nothing metered (12), all 8 weighings off
+/// (17) and of one kind (19), and a catch below 0 (20).
+fn fullest() -> Job {
+    let mut job = samples::longest();
+    job.certificates.clear();
+    job.runs.truncate(1);
+    let run = &mut job.runs[0];
+    run.number = 7;
+    run.shape = Shape::Rectangular;
+    run.sides = [119, 119];
+    run.to_next_disturbance = 0;
+    run.from_last_disturbance = 0;
+    run.last_reading = run.first_reading;
+    for point in &mut run.points {
+        point.seconds = 100;
+    }
+    for segment in &mut run.segments {
+        segment.seconds = 400;
+    }
+    for weighing in &mut run.weighings {
+        weighing.kind = WeighingKind::Filter;
+        weighing.first_final = weighing.tare;
+        weighing.second_final = weighing.tare - 6;
+    }
+    job
+}

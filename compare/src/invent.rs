@@ -1,0 +1,86 @@
+//! Random jobs that are read: every value lies in its range, and every range
+//! that depends on another value is kept too. A job is between calm (values of
+//! the worked job, nearly) and wild (ends of ranges, anything between), so that
+//! accepted runs, each finding and each absence come up.
+
+mod certificates;
+mod runs;
+
+use std::collections::BTreeSet;
+
+use independent::job::{Job, Run};
+use independent::work;
+
+use crate::random::Random;
+
+const MOST_RUNS: usize = 16;
+const MOST_METERED: i64 = 999_999;
+
+/// How a job is made.
+#[derive(Clone, Copy)]
+struct Style {
+    /// The chance in percent that a part of it is not calm.
+    wildness: u64,
+    /// Whether every count is at its greatest.
+    full: bool,
+}
+
+/// A job of a few runs, mostly, or of many.
+pub fn job(random: &mut Random) -> Job {
+    let runs = random.pick(&[1, 1, 1, 1, 2, 2, 3, 4, MOST_RUNS]);
+    job_of(random, runs, false)
+}
+
+/// A job of one to three runs.
+pub fn short_job(random: &mut Random) -> Job {
+    let runs = random.pick(&[1, 1, 2, 3]);
+    job_of(random, runs, false)
+}
+
+/// A job in which every count is at its greatest.
+pub fn longest_job(random: &mut Random) -> Job {
+    job_of(random, MOST_RUNS, true)
+}
+
+fn job_of(random: &mut Random, run_count: usize, full: bool) -> Job {
+    let wildness = random.pick(&[0, 2, 5, 10, 30, 100]);
+    let style = Style { wildness, full };
+    let runs: Vec<Run> = numbers(random, run_count)
+        .into_iter()
+        .map(|number| runs::run(random, number, style))
+        .collect();
+    let certificates = certificates::certificates(random, &runs, style);
+    let mut job = Job { certificates, runs };
+    if random.percent(15) {
+        tune_isokinetic(random, &mut job);
+    }
+    job
+}
+
+/// Rising run numbers, sometimes from 1 on, sometimes up to 999.
+fn numbers(random: &mut Random, count: usize) -> Vec<u16> {
+    let mut numbers = BTreeSet::new();
+    while numbers.len() < count {
+        numbers.insert(random.near_ends(1, 999) as u16);
+    }
+    numbers.into_iter().collect()
+}
+
+/// Meters one run so that line 18, where present, comes to a limit's side.
+fn tune_isokinetic(random: &mut Random, job: &mut Job) {
+    let target = random.pick(&[8_999, 9_000, 11_000, 11_001]);
+    let tuned = random.below(job.runs.len());
+    let Job { certificates, runs } = job;
+    let run = &mut runs[tuned];
+    let first = run.first_reading;
+    let (mut below, mut reached) = (0, MOST_METERED as u32);
+    while below + 1 < reached {
+        let middle = (below + reached) / 2;
+        run.last_reading = first + middle;
+        match work(run, certificates).lines.line(18) {
+            Some(value) if value >= target => reached = middle,
+            _ => below = middle,
+        }
+    }
+    run.last_reading = first + reached;
+}

@@ -1,0 +1,26 @@
+//! What a failed comparison says: the case, the smallest job found for it, and
+//! what each side gave on that.
+
+use std::fmt;
+
+use crate::call::{hex, Difference};
+
+pub struct Failure {
+    pub case: String,
+    /// None for calls that take no job.
+    pub job: Option<Vec<u8>>,
+    pub difference: Difference,
+}
+
+impl fmt::Display for Failure {
+    fn fmt(&self, f: &mut fmt::Formatter) -> fmt::Result {
+        writeln!(f, "DISAGREEMENT in {}", self.case)?;
+        if let Some(job) = &self.job {
+            writeln!(f, "smallest job found, {} bytes:", job.len())?;
+            writeln!(f, "  {}", hex(job))?;
+        }
+        writeln!(f, "on {}", self.difference.what)?;
+        writeln!(f, "proved: {}", self.difference.proved)?;
+        write!(f, "independent: {}", self.difference.independent)
+    }
+}

@@ -1,0 +1,134 @@
+//! Runs one section of the comparison, shrinks its first disagreement, and says
+//! how much it compared and how long that took.
+
+use std::path::Path;
+use std::time::Instant;
+
+use crate::call::{Call, Difference};
+use crate::case::{Case, Expected};
+use crate::cases::outputs::Outputs;
+use crate::check;
+use crate::report::Failure;
+use crate::shrink::smallest;
+use crate::tally::Tally;
+
+pub struct Section {
+    name: &'static str,
+    started: Instant,
+    tally: Tally,
+}
+
+impl Section {
+    pub fn new(name: &'static str) -> Self {
+        Section {
+            name,
+            started: Instant::now(),
+            tally: Tally::default(),
+        }
+    }
+
+    /// Compares the library on every case.
+    pub fn library(mut self, cases: impl Iterator<Item = Case>) -> Result<Tally, Failure> {
+        for case in cases {
+            let compared = |job: &[u8]| check::library(job, &mut Tally::default()).map(drop);
+            let refusal = check::library(&case.subject.bytes(), &mut self.tally)
+                .map_err(|difference| shrunk(&case, difference, &compared))?;
+            if !case.expected.admits(refusal) {
+                return Err(unexpected(&case, "reading", case.expected, refusal));
+            }
+        }
+        Ok(self.done())
+    }
+
+    /// Compares what the program prints on every case.
+    pub fn sheets(self, program: &Path, cases: impl Iterator<Item = Case>) -> Result<(), Failure> {
+        let mut jobs = 0;
+        for case in cases {
+            let compared = |job: &[u8]| check::sheet(program, job);
+            compared(&case.subject.bytes())
+                .map_err(|difference| shrunk(&case, difference, &compared))?;
+            jobs += 1;
+        }
+        println!(
+            "{}: {jobs} jobs printed alike ({})",
+            self.name,
+            self.taken()
+        );
+        Ok(())
+    }
+
+    /// Compares the library with outputs of many lengths.
+    pub fn outputs(mut self, cases: Vec<Outputs>) -> Result<Tally, Failure> {
+        for outputs in cases {
+            let job = outputs.case.subject.bytes();
+            for (call, expected) in outputs.calls() {
+                let outcome = call.agreed(&job).map_err(|difference| {
+                    shrunk(&outputs.case, difference, &|job| call.agreed(job).map(drop))
+                })?;
+                if !expected.admits(outcome.refusal()) {
+                    let what = format!("{call:?}");
+                    let refusal = outcome.refusal();
+                    return Err(unexpected(&outputs.case, &what, expected, refusal));
+                }
+                self.tally.count(&outcome);
+            }
+            self.tally.jobs += 1;
+        }
+        Ok(self.done())
+    }
+
+    /// Compares the library's layouts, which take no job.
+    pub fn layouts(mut self, calls: impl Iterator<Item = Call>) -> Result<Tally, Failure> {
+        for call in calls {
+            let outcome = call.agreed(&[]).map_err(|difference| Failure {
+                case: "layouts".into(),
+                job: None,
+                difference,
+            })?;
+            self.tally.count(&outcome);
+        }
+        Ok(self.done())
+    }
+
+    fn done(self) -> Tally {
+        let Tally { jobs, calls, .. } = self.tally;
+        println!(
+            "{}: {jobs} jobs, {calls} calls agree; refusals {} ({})",
+            self.name,
+            self.tally.refusals_text(),
+            self.taken()
+        );
+        self.tally
+    }
+
+    fn taken(&self) -> String {
+        format!("{:.1} s", self.started.elapsed().as_secs_f64())
+    }
+}
+
+type Compared<'a> = &'a dyn Fn(&[u8]) -> Result<(), Difference>;
+
+/// The failure on the smallest job on which the two sides still part.
+fn shrunk(case: &Case, difference: Difference, compared: Compared) -> Failure {
+    let parts = |job: &[u8]| compared(job).is_err();
+    let job = smallest(case.subject.clone(), &parts).bytes();
+    let difference = compared(&job).err().unwrap_or(difference);
+    Failure {
+        case: case.name.clone(),
+        job: Some(job),
+        difference,
+    }
+}
+
+/// Both sides agree, but not on what the case was made for.
+fn unexpected(case: &Case, what: &str, expected: Expected, refusal: u32) -> Failure {
+    Failure {
+        case: case.name.clone(),
+        job: Some(case.subject.bytes()),
+        difference: Difference {
+            what: format!("{what}, where {expected:?} was to come"),
+            proved: format!("refusal {refusal} (0 is success)"),
+            independent: "the same".into(),
+        },
+    }
+}

@@ -1,0 +1,192 @@
+//! Counts what the compared jobs reached: verdicts, rules, absent lines for each
+//! of their causes, refusals. A comparison that reached too little is no proof.
+
+use std::fmt;
+
+use crate::call::{Outcome, FINDING_LENGTH, LINES_LENGTH, LINE_COUNT, LINE_LENGTH};
+
+const RULES: usize = 20;
+const REFUSALS: usize = 11;
+
+/// Rule 13 cannot occur: of all readings in range, line 3 at 1, Y at 0.9, line
+/// 4 at 200,000 and line 5 at 6,100 give the least line 6, and it is 1.
+const CANNOT_OCCUR: usize = 13;
+
+/// The lines that can be absent, each with the rules that are found exactly
+/// when one of its causes holds. Line 6 at 0 is no cause, as rule 13 shows.
+const ABSENCES: [(usize, &[u8]); 9] = [
+    (6, &[1, 12]),
+    (8, &[1, 12]),
+    (10, &[1, 12]),
+    (14, &[1, 12]),
+    (15, &[1, 12, 2]),
+    (16, &[3]),
+    (17, &[1, 12]),
+    (18, &[1, 12, 2, 3, 14]),
+    (20, &[1, 12, 20]),
+];
+
+/// Line 18 on either side of its limits.
+const ISOKINETIC_EDGES: [i64; 4] = [8_999, 9_000, 11_000, 11_001];
+
+#[derive(Default)]
+pub struct Tally {
+    pub jobs: u64,
+    pub calls: u64,
+    accepted: u64,
+    void: u64,
+    rules: [u64; RULES + 1],
+    /// By line, then by the rule that was its only cause.
+    absences: [[u64; RULES + 1]; LINE_COUNT + 1],
+    isokinetic_edges: [u64; ISOKINETIC_EDGES.len()],
+    refusals: [u64; REFUSALS + 1],
+}
+
+impl Tally {
+    pub fn count(&mut self, outcome: &Outcome) {
+        self.calls += 1;
+        self.refusals[outcome.refusal() as usize] += 1;
+    }
+
+    /// Counts a successful reduce's verdict, findings and absent lines too.
+    pub fn count_reduced(&mut self, outcome: &Outcome) {
+        self.count(outcome);
+        if outcome.refusal() != 0 {
+            return;
+        }
+        let rules = self.count_findings(outcome);
+        let lines: Vec<Option<i64>> = outcome.output(0)[..LINES_LENGTH]
+            .chunks(LINE_LENGTH)
+            .map(line)
+            .collect();
+        for (number, causes) in ABSENCES {
+            let mut held = causes.iter().filter(|cause| rules.contains(cause));
+            if let (None, Some(&only), None) = (lines[number - 1], held.next(), held.next()) {
+                self.absences[number][usize::from(only)] += 1;
+            }
+        }
+        for (edge, count) in ISOKINETIC_EDGES.iter().zip(&mut self.isokinetic_edges) {
+            *count += u64::from(lines[17] == Some(*edge));
+        }
+    }
+
+    fn count_findings(&mut self, outcome: &Outcome) -> Vec<u8> {
+        if outcome.accepted() {
+            self.accepted += 1;
+        } else {
+            self.void += 1;
+        }
+        let findings = outcome.output(1).chunks(FINDING_LENGTH);
+        let mut rules: Vec<u8> = findings
+            .take(outcome.findings())
+            .map(|finding| finding[0])
+            .collect();
+        for &rule in &rules {
+            self.rules[usize::from(rule)] += 1;
+        }
+        rules.dedup();
+        rules
+    }
+
+    pub fn add(&mut self, other: &Tally) {
+        self.jobs += other.jobs;
+        self.calls += other.calls;
+        self.accepted += other.accepted;
+        self.void += other.void;
+        add_each(&mut self.rules, &other.rules);
+        for (mine, others) in self.absences.iter_mut().zip(&other.absences) {
+            add_each(mine, others);
+        }
+        add_each(&mut self.isokinetic_edges, &other.isokinetic_edges);
+        add_each(&mut self.refusals, &other.refusals);
+    }
+
+    /// What jobs that are read must reach and these did not, in words.
+    pub fn unreached_by_reading(&self) -> Vec<String> {
+        let mut unreached = Vec::new();
+        let mut need = |count: u64, what: String| {
+            if count == 0 {
+                unreached.push(what);
+            }
+        };
+        need(self.accepted, "an accepted run".into());
+        need(self.void, "a void run".into());
+        for rule in (1..=RULES).filter(|&rule| rule != CANNOT_OCCUR) {
+            need(self.rules[rule], format!("rule {rule}"));
+        }
+        for (line, causes) in ABSENCES {
+            for &cause in causes {
+                let count = self.absences[line][usize::from(cause)];
+                need(count, format!("line {line} absent only by rule {cause}"));
+            }
+        }
+        for (edge, &count) in ISOKINETIC_EDGES.iter().zip(&self.isokinetic_edges) {
+            need(count, format!("line 18 at {edge}"));
+        }
+        if self.rules[CANNOT_OCCUR] != 0 {
+            unreached.push("the promise that rule 13 cannot occur".into());
+        }
+        unreached
+    }
+
+    /// The refusals of these numbers that were never given, in words.
+    pub fn unreached_refusals(&self, numbers: impl Iterator<Item = usize>) -> Vec<String> {
+        numbers
+            .filter(|&number| self.refusals[number] == 0)
+            .map(|number| format!("refusal {number}"))
+            .collect()
+    }
+
+    pub fn refusals_text(&self) -> String {
+        let refusals = (1..=REFUSALS).filter(|&number| self.refusals[number] > 0);
+        let counted: Vec<String> = refusals
+            .map(|number| format!("{number}: {}", self.refusals[number]))
+            .collect();
+        match counted.is_empty() {
+            true => "none".into(),
+            false => counted.join(", "),
+        }
+    }
+}
+
+fn add_each(mine: &mut [u64], others: &[u64]) {
+    for (count, other) in mine.iter_mut().zip(others) {
+        *count += other;
+    }
+}
+
+fn line(bytes: &[u8]) -> Option<i64> {
+    let value = i64::from_le_bytes(std::array::from_fn(|i| bytes[1 + i]));
+    (bytes[0] == 1).then_some(value)
+}
+
+/// What was reached by jobs that are read.
+impl fmt::Display for Tally {
+    fn fmt(&self, f: &mut fmt::Formatter) -> fmt::Result {
+        writeln!(f, "  accepted {}, void {}", self.accepted, self.void)?;
+        write!(f, "  findings by rule:")?;
+        for rule in 1..=RULES {
+            write!(f, " {rule}: {}", self.rules[rule])?;
+            if rule == CANNOT_OCCUR {
+                write!(f, " (cannot occur)")?;
+            }
+            write!(f, "{}", if rule < RULES { "," } else { "\n" })?;
+        }
+        writeln!(
+            f,
+            "  absent lines by their only cause (the rule found with it):"
+        )?;
+        for (line, causes) in ABSENCES {
+            let counted: Vec<String> = causes
+                .iter()
+                .map(|&cause| format!("rule {cause}: {}", self.absences[line][usize::from(cause)]))
+                .collect();
+            writeln!(f, "    line {line}: {}", counted.join(", "))?;
+        }
+        write!(f, "  line 18 at its limits:")?;
+        for (edge, count) in ISOKINETIC_EDGES.iter().zip(&self.isokinetic_edges) {
+            write!(f, " {edge}: {count} ")?;
+        }
+        Ok(())
+    }
+}

@@ -1,0 +1,117 @@
+/*
+ * leverbonnet.h - the five calls of the proved library.
+ *
+ * Every call answers one uint64_t:
+ *
+ *     high 32 bits   0 for success, else the number of the refusal
+ *     low 32 bits    what the call gives on success, else the refusal's place,
+ *                    a byte of the job counted from 0
+ *
+ * A buffer is lent as a pointer and its length in bytes, and no pointer is
+ * kept. Lent outputs must not overlap each other or the job. A length may be
+ * 0, and the pointer is then not followed; it still must not be NULL. On
+ * success only the bytes described below are written and every lent byte
+ * beyond them stays as it was. On a refusal no lent byte changes at all.
+ *
+ * Refusals:
+ *
+ *      1  the job ends inside its header or a record     place: job_len
+ *      2  the mark is not "SRJ"                          place: 0
+ *      3  the version is not 1                           place: 3
+ *      4  a count is out of range                        place: that count
+ *      5  another field is out of range                  place: its first byte
+ *      6  a certificate repeats an earlier one, or run
+ *         numbers do not rise                            place: the record
+ *      7  points last over 36,000 seconds together, or
+ *         segments do not last as long as points         place: the run
+ *      8  bytes follow the last run                      place: first of them
+ *      9  a lent output is too short                     place: 0
+ *     10  the job has no such run                        place: 0
+ *     11  a layout is outside its ranges                 place: 0
+ *
+ * A job is judged from its front and the first trouble met is the answer; 10
+ * and then 9 come only once the whole job was found good. A layout answers 11
+ * before 9. All outputs are little-endian.
+ */
+
+#ifndef LEVERBONNET_H
+#define LEVERBONNET_H
+
+#include <stddef.h>
+#include <stdint.h>
+
+#ifdef __cplusplus
+extern "C" {
+#endif
+
+#define LEVERBONNET_REFUSAL(answer) ((uint32_t)((answer) >> 32))
+#define LEVERBONNET_VALUE(answer) ((uint32_t)(answer))
+
+/* Bytes of a reduced run's lines, and of one finding. */
+#define LEVERBONNET_LINES_LEN 180
+#define LEVERBONNET_FINDING_LEN 4
+
+/* Enough bytes for the findings of any run: 17 rules about the whole run, 64
+ * points, 16 segments and 8 weighings. */
+#define LEVERBONNET_FINDINGS_MOST (LEVERBONNET_FINDING_LEN * (17 + 64 + 16 + 8))
+
+/* Added to the number of findings when the run is accepted. */
+#define LEVERBONNET_ACCEPTED 65536
+
+/*
+ * Works the run of that number.
+ *
+ * lines: 20 lines of 9 bytes, line 1 first: one byte, 1 if the line is present
+ * and 0 if it is absent, then its value as a signed 64-bit number (0 if absent).
+ *
+ * findings: 4 bytes each, by rule and then place: the rule (1 to 20), the class
+ * (1 fault, 2 note), the place as 16 bits: a point, segment or weighing counted
+ * from 1, or 0 for the whole run.
+ *
+ * Succeeds with the number of findings, plus LEVERBONNET_ACCEPTED if none is a
+ * fault. Answers 9 if lines_len is below 180 or findings_len below 4 bytes for
+ * each finding; a run without findings needs none.
+ */
+uint64_t leverbonnet_reduce(const uint8_t *job, size_t job_len, uint16_t run,
+                            uint8_t *lines, size_t lines_len,
+                            uint8_t *findings, size_t findings_len);
+
+/* Succeeds with the number of runs, 1 to 16. */
+uint64_t leverbonnet_run_count(const uint8_t *job, size_t job_len);
+
+/*
+ * Succeeds with the number, 1 to 999, of the run at that index in file order,
+ * counted from 0. Answers 10 past the last run.
+ */
+uint64_t leverbonnet_run_number(const uint8_t *job, size_t job_len,
+                                uint16_t index);
+
+/*
+ * Lays out the points on one diameter of a round stack: points even, 2 to 24;
+ * diameter in 0.1 in, 120 to 9,999; nozzle in 0.001 in, 100 to 1,000.
+ *
+ * out: one uint32_t per point, its distance from the near wall in 0.001 in,
+ * rising. Succeeds with the number of bytes written, 4 per point.
+ */
+uint64_t leverbonnet_round_layout(uint16_t points, uint16_t diameter,
+                                  uint16_t nozzle, uint8_t *out,
+                                  size_t out_len);
+
+/*
+ * Lays out the cells of a rectangular stack: points 9, 12, 16, 20, 25, 30, 36,
+ * 42 or 49; sides in 0.1 in, 1 to 9,999, with a diameter 2LW/(L+W) of 120 or
+ * more. The longer side has the more cells, the first if they are equal.
+ *
+ * out: two uint32_t per cell, its center's distance along the first and along
+ * the second side in 0.001 in; cells follow one another along the first side.
+ * Succeeds with the number of bytes written, 8 per cell.
+ */
+uint64_t leverbonnet_rect_layout(uint16_t points, uint16_t first,
+                                 uint16_t second, uint8_t *out,
+                                 size_t out_len);
+
+#ifdef __cplusplus
+}
+#endif
+
+#endif

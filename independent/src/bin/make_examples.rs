@@ -1,0 +1,22 @@
+//! Writes the job files of `examples/` and the sheets expected of them.
+
+use std::fs;
+use std::io;
+use std::path::Path;
+
+use independent::{job::Job, samples, sheet};
+
+fn main() -> io::Result<()> {
+    let folder = Path::new(concat!(env!("CARGO_MANIFEST_DIR"), "/../examples"));
+    fs::create_dir_all(folder)?;
+    write_with_sheet(folder, "worked", &samples::worked())?;
+    write_with_sheet(folder, "several-runs", &samples::several_runs())?;
+    write_with_sheet(folder, "refused", &samples::refused())?;
+    fs::write(folder.join("longest.job"), samples::longest().bytes())
+}
+
+fn write_with_sheet(folder: &Path, name: &str, job: &Job) -> io::Result<()> {
+    let bytes = job.bytes();
+    fs::write(folder.join(format!("{name}.job")), &bytes)?;
+    fs::write(folder.join(format!("{name}.txt")), sheet(&bytes))
+}

@@ -1,0 +1,86 @@
+//! Choosing the certificates that count for a run.
+
+use crate::job::{Certificate, Instrument, Kind, Run};
+
+/// A run's certificates; `None` where the job holds none so dated.
+pub struct Chosen<'a> {
+    pub meter_before: Option<&'a Certificate>,
+    pub meter_after: Option<&'a Certificate>,
+    pub pitot: Option<&'a Certificate>,
+    pub nozzle: Option<&'a Certificate>,
+}
+
+impl<'a> Chosen<'a> {
+    pub fn for_run(run: &Run, certificates: &'a [Certificate]) -> Self {
+        Chosen {
+            meter_before: before(certificates, Kind::Meter, run.meter, run.day),
+            meter_after: after(certificates, Kind::Meter, run.meter, run.day),
+            pitot: before(certificates, Kind::Pitot, run.pitot, run.day),
+            nozzle: before(certificates, Kind::Nozzle, run.nozzle, run.day),
+        }
+    }
+
+    /// Whether both meter certificates are there and the after factor lies
+    /// more than 5 percent of the before factor away from it.
+    pub fn factor_moved(&self) -> bool {
+        let (Some(before), Some(after)) = (self.meter_before, self.meter_after) else {
+            return false;
+        };
+        let difference = before.values[0].abs_diff(after.values[0]);
+        u32::from(difference) * 100 > u32::from(before.values[0]) * 5
+    }
+
+    /// Y in 1/10,000, known whenever the before certificate is there. An after
+    /// factor that moved counts only where it is the lower.
+    pub fn factor(&self) -> Option<u16> {
+        let before = self.meter_before?.values[0];
+        match self.meter_after {
+            Some(after) if self.factor_moved() => Some(before.min(after.values[0])),
+            _ => Some(before),
+        }
+    }
+
+    /// Cp in 1/1,000.
+    pub fn coefficient(&self) -> Option<u16> {
+        self.pitot.map(|pitot| pitot.values[0])
+    }
+
+    /// The nozzle's three diameters in 0.001 in.
+    pub fn nozzle_diameters(&self) -> Option<[u16; 3]> {
+        self.nozzle.map(|nozzle| nozzle.values)
+    }
+}
+
+/// The latest dated on or before the day.
+fn before(
+    certificates: &[Certificate],
+    kind: Kind,
+    instrument: Instrument,
+    day: u16,
+) -> Option<&Certificate> {
+    of(certificates, kind, instrument)
+        .filter(|certificate| certificate.day <= day)
+        .max_by_key(|certificate| certificate.day)
+}
+
+/// The earliest dated later than the day.
+fn after(
+    certificates: &[Certificate],
+    kind: Kind,
+    instrument: Instrument,
+    day: u16,
+) -> Option<&Certificate> {
+    of(certificates, kind, instrument)
+        .filter(|certificate| certificate.day > day)
+        .min_by_key(|certificate| certificate.day)
+}
+
+fn of(
+    certificates: &[Certificate],
+    kind: Kind,
+    instrument: Instrument,
+) -> impl Iterator<Item = &Certificate> {
+    certificates
+        .iter()
+        .filter(move |certificate| certificate.kind == kind && certificate.instrument == instrument)
+}

@@ -1,0 +1,160 @@
+//! The findings of a run, by rule and then by place.
+
+use crate::certificates::Chosen;
+use crate::diameter::{Diameter, GREATEST_SMALL_DIAMETER, LEAST_DIAMETER};
+use crate::job::{Run, Shape, WeighingKind};
+use crate::layout::grid;
+use crate::leak;
+use crate::lines::Lines;
+
+/// The place of a finding that is about the whole run.
+const WHOLE_RUN: u16 = 0;
+
+/// Rules that inform and leave the run accepted.
+const NOTES: [u8; 2] = [5, 11];
+
+/// The shortest time at a point, in seconds.
+const SHORTEST_POINT: u16 = 120;
+
+/// The widest spread of a nozzle's diameters, 0.001 in.
+const WIDEST_NOZZLE_SPREAD: u16 = 4;
+
+/// The widest difference of two final weights, 0.1 mg.
+const WIDEST_WEIGHT_DIFFERENCE: u32 = 5;
+
+/// Percent isokinetic, 0.01 percent.
+const LEAST_ISOKINETIC: i64 = 9_000;
+const GREATEST_ISOKINETIC: i64 = 11_000;
+
+#[derive(Clone, Copy, Debug, PartialEq, Eq)]
+pub struct Finding {
+    pub rule: u8,
+    pub place: u16,
+}
+
+impl Finding {
+    pub fn is_note(self) -> bool {
+        NOTES.contains(&self.rule)
+    }
+
+    pub fn is_fault(self) -> bool {
+        !self.is_note()
+    }
+
+    pub fn bytes(self) -> [u8; 4] {
+        let class = if self.is_fault() { 1 } else { 2 };
+        let [low, high] = self.place.to_le_bytes();
+        [self.rule, class, low, high]
+    }
+}
+
+/// Everything found about the run, in list order: each rule is asked once, in
+/// turn, and a rule about points, segments or weighings goes through them in
+/// file order.
+pub fn of(run: &Run, chosen: &Chosen, lines: &Lines) -> Vec<Finding> {
+    let mut list = List(Vec::new());
+    certificate_findings(&mut list, chosen);
+    stack_findings(&mut list, run);
+    sampling_findings(&mut list, run, lines);
+    volume_findings(&mut list, lines);
+    weighing_findings(&mut list, run, lines);
+    list.0
+}
+
+struct List(Vec<Finding>);
+
+impl List {
+    fn whole_run(&mut self, rule: u8, found: bool) {
+        if found {
+            let place = WHOLE_RUN;
+            self.0.push(Finding { rule, place });
+        }
+    }
+
+    fn each<T>(&mut self, rule: u8, records: &[T], found: impl Fn(&T) -> bool) {
+        for (record, place) in records.iter().zip(1..) {
+            if found(record) {
+                self.0.push(Finding { rule, place });
+            }
+        }
+    }
+}
+
+fn certificate_findings(list: &mut List, chosen: &Chosen) {
+    list.whole_run(1, chosen.meter_before.is_none());
+    list.whole_run(2, chosen.pitot.is_none());
+    list.whole_run(3, chosen.nozzle.is_none());
+    list.whole_run(4, chosen.meter_after.is_none());
+    list.whole_run(5, chosen.factor_moved());
+    list.whole_run(6, chosen.nozzle_diameters().is_some_and(is_out_of_round));
+}
+
+fn is_out_of_round(diameters: [u16; 3]) -> bool {
+    let [a, b, c] = diameters;
+    a.max(b).max(c) - a.min(b).min(c) > WIDEST_NOZZLE_SPREAD
+}
+
+fn stack_findings(list: &mut List, run: &Run) {
+    let diameter = Diameter::of(run);
+    list.whole_run(7, diameter.is_below(LEAST_DIAMETER));
+    list.whole_run(
+        8,
+        diameter.nearer_than_halves(run.to_next_disturbance, 1)
+            || diameter.nearer_than_halves(run.from_last_disturbance, 4),
+    );
+    list.whole_run(9, !points_suffice(run, diameter));
+}
+
+/// Whether the number of points is one the shape allows, and enough for the
+/// stack: few with a long straight stretch, more without.
+fn points_suffice(run: &Run, diameter: Diameter) -> bool {
+    let straight = !diameter.nearer_than_halves(run.from_last_disturbance, 16)
+        && !diameter.nearer_than_halves(run.to_next_disturbance, 4);
+    let large = diameter.is_above(GREATEST_SMALL_DIAMETER);
+    let least = match (straight, large, run.shape) {
+        (true, true, _) => 12,
+        (true, false, Shape::Round) => 8,
+        (true, false, Shape::Rectangular) => 9,
+        (false, _, Shape::Round) => 24,
+        (false, _, Shape::Rectangular) => 25,
+    };
+    let points = run.points.len() as u16;
+    let allowed = match run.shape {
+        Shape::Round => points.is_multiple_of(4),
+        Shape::Rectangular => grid(points).is_some(),
+    };
+    allowed && points >= least
+}
+
+fn sampling_findings(list: &mut List, run: &Run, lines: &Lines) {
+    list.each(10, &run.points, |point| point.seconds < SHORTEST_POINT);
+    if let (Some(time), Some(volume)) = (lines.line(1), lines.line(2)) {
+        list.each(11, &run.segments, |segment| {
+            leak::excess(segment.leak, time, volume) > 0
+        });
+    }
+}
+
+/// Rule 13 is asked as written, though no reading in range answers to it: the
+/// least line 3 that is not 0 still gives a line 6 of 1.
+fn volume_findings(list: &mut List, lines: &Lines) {
+    list.whole_run(12, lines.line(3) == Some(0));
+    list.whole_run(13, lines.line(6) == Some(0));
+    list.whole_run(14, lines.line(15) == Some(0));
+    let isokinetic = lines.line(18);
+    list.whole_run(15, isokinetic.is_some_and(|value| value < LEAST_ISOKINETIC));
+    list.whole_run(
+        16,
+        isokinetic.is_some_and(|value| value > GREATEST_ISOKINETIC),
+    );
+}
+
+fn weighing_findings(list: &mut List, run: &Run, lines: &Lines) {
+    list.each(17, &run.weighings, |weighing| {
+        weighing.first_final.abs_diff(weighing.second_final) > WIDEST_WEIGHT_DIFFERENCE
+    });
+    let none_of = |kind: WeighingKind| run.weighings.iter().all(|one| one.kind != kind);
+    list.whole_run(18, none_of(WeighingKind::Filter));
+    list.whole_run(19, none_of(WeighingKind::Rinse));
+    list.whole_run(20, lines.line(19).is_some_and(|catch| catch < 0));
+}

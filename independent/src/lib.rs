@@ -1,0 +1,95 @@
+//! The independent program: the same five calls and the same printed sheet as
+//! the proved library, written from the rules alone. It shares nothing with the
+//! library, so that where the two agree neither can be repeating the other's slip.
+//!
+//! Each call answers one u64. The high 32 bits hold a refusal's number, or 0
+//! for success; the low 32 bits hold the refusal's place, or what succeeded.
+//! A refusal changes no lent byte; success changes only the bytes it needs.
+
+#![forbid(unsafe_code)]
+
+mod answer;
+mod arithmetic;
+mod certificates;
+mod diameter;
+mod findings;
+pub mod job;
+mod layout;
+mod leak;
+mod lines;
+mod print;
+mod read;
+pub mod samples;
+mod worked;
+
+pub use answer::{Reason, Refusal};
+pub use findings::Finding;
+pub use layout::{rect_distances, round_distances};
+pub use lines::{Lines, LINE_COUNT};
+pub use print::sheet;
+pub use read::read;
+pub use worked::{work, Worked};
+
+use answer::answered;
+
+/// What `reduce` adds to the number of findings when the run is accepted.
+pub const ACCEPTED: u32 = 65_536;
+
+/// Works the run of that number into `lines` (20 lines of 9 bytes) and
+/// `findings` (4 bytes each). Succeeds with the number of findings, plus
+/// [`ACCEPTED`] when none of them is a fault.
+pub fn reduce(job: &[u8], run_number: u16, lines: &mut [u8], findings: &mut [u8]) -> u64 {
+    answered(reduced(job, run_number, lines, findings))
+}
+
+fn reduced(
+    job: &[u8],
+    run_number: u16,
+    lines: &mut [u8],
+    findings: &mut [u8],
+) -> Result<u32, Refusal> {
+    let job = read(job)?;
+    let run = job
+        .runs
+        .iter()
+        .find(|run| run.number == run_number)
+        .ok_or(Refusal::new(Reason::NoSuchRun, 0))?;
+    let worked = work(run, &job.certificates);
+    worked.write(lines, findings)?;
+    let accepted = if worked.accepted() { ACCEPTED } else { 0 };
+    Ok(worked.findings.len() as u32 + accepted)
+}
+
+/// Succeeds with the number of runs in the job.
+pub fn run_count(job: &[u8]) -> u64 {
+    answered(read(job).map(|job| job.runs.len() as u32))
+}
+
+/// Succeeds with the number of the run that stands at `index`, counted from 0.
+/// Past the last run there is none: refusal 10.
+pub fn run_number(job: &[u8], index: u16) -> u64 {
+    answered(read(job).and_then(|job| {
+        job.runs
+            .get(usize::from(index))
+            .map(|run| u32::from(run.number))
+            .ok_or(Refusal::new(Reason::NoSuchRun, 0))
+    }))
+}
+
+/// Writes the distances of the points on one diameter of a round stack, from
+/// the near wall to the far one. Succeeds with the number of bytes written.
+pub fn round_layout(points: u16, diameter: u16, nozzle: u16, out: &mut [u8]) -> u64 {
+    answered(
+        round_distances(points, diameter, nozzle)
+            .and_then(|distances| layout::write(&distances, out)),
+    )
+}
+
+/// Writes the centers of a rectangular stack's cells, the first side fastest.
+/// Succeeds with the number of bytes written.
+pub fn rect_layout(points: u16, first: u16, second: u16, out: &mut [u8]) -> u64 {
+    answered(rect_distances(points, first, second).and_then(|centers| {
+        let distances: Vec<u32> = centers.into_iter().flatten().collect();
+        layout::write(&distances, out)
+    }))
+}

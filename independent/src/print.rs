@@ -1,0 +1,50 @@
+//! The printed sheet of a whole job.
+
+use crate::findings::Finding;
+use crate::job::Job;
+use crate::read::read;
+use crate::worked::{work, Worked};
+
+/// All the job's runs in file order, or the one line of its refusal.
+pub fn sheet(job: &[u8]) -> Vec<u8> {
+    let text = match read(job) {
+        Ok(job) => runs(&job),
+        Err(refusal) => format!("REFUSED {} {}\n", refusal.number(), refusal.place),
+    };
+    text.into_bytes()
+}
+
+fn runs(job: &Job) -> String {
+    job.runs
+        .iter()
+        .map(|run| run_text(run.number, &work(run, &job.certificates)))
+        .collect()
+}
+
+fn run_text(number: u16, worked: &Worked) -> String {
+    let verdict = if worked.accepted() {
+        "ACCEPTED"
+    } else {
+        "VOID"
+    };
+    let mut text = format!("RUN {number} {verdict}\n");
+    for (line, number) in worked.lines.all().iter().zip(1..) {
+        text += &line_text(number, *line);
+    }
+    for finding in &worked.findings {
+        text += &finding_text(*finding);
+    }
+    text
+}
+
+fn line_text(number: u32, line: Option<i64>) -> String {
+    match line {
+        Some(value) => format!("{number} {value}\n"),
+        None => format!("{number} -\n"),
+    }
+}
+
+fn finding_text(finding: Finding) -> String {
+    let class = if finding.is_note() { "NOTE" } else { "FAULT" };
+    format!("{class} {} {}\n", finding.rule, finding.place)
+}

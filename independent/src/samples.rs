@@ -1,0 +1,330 @@
+//! Jobs worth showing: the rules' printed job, one of several runs, one that is
+//! refused, and the longest a file can hold.
+
+use crate::job::*;
+
+const ABC_METER: Instrument = instrument(b"ABC", 10_442);
+const XYZ_METER: Instrument = instrument(b"XYZ", 10_442);
+const PITOT: Instrument = instrument(b"ABC", 1);
+const NOZZLE: Instrument = instrument(b"ABC", 2);
+const WORN_NOZZLE: Instrument = instrument(b"ABC", 3);
+
+const CALIBRATED: u16 = 8_990;
+const SAMPLED: u16 = 9_000;
+const RECALIBRATED: u16 = 9_020;
+
+const fn instrument(maker: &[u8; 3], serial: u32) -> Instrument {
+    Instrument {
+        maker: *maker,
+        serial,
+    }
+}
+
+/// The job whose whole sheet the rules print: one accepted run with one note.
+pub fn worked() -> Job {
+    Job {
+        certificates: vec![
+            meter(ABC_METER, CALIBRATED, 10_000),
+            meter(ABC_METER, RECALIBRATED, 9_800),
+            pitot(PITOT, CALIBRATED, 840),
+            nozzle(NOZZLE, CALIBRATED, [250, 250, 250]),
+        ],
+        runs: vec![worked_run()],
+    }
+}
+
+fn meter(instrument: Instrument, day: u16, factor: u16) -> Certificate {
+    let kind = Kind::Meter;
+    let values = [factor, 0, 0];
+    Certificate {
+        kind,
+        instrument,
+        day,
+        values,
+    }
+}
+
+fn pitot(instrument: Instrument, day: u16, coefficient: u16) -> Certificate {
+    let kind = Kind::Pitot;
+    let values = [coefficient, 0, 0];
+    Certificate {
+        kind,
+        instrument,
+        day,
+        values,
+    }
+}
+
+fn nozzle(instrument: Instrument, day: u16, values: [u16; 3]) -> Certificate {
+    let kind = Kind::Nozzle;
+    Certificate {
+        kind,
+        instrument,
+        day,
+        values,
+    }
+}
+
+fn weighing(kind: WeighingKind, tare: u32, first_final: u32, second_final: u32) -> Weighing {
+    Weighing {
+        kind,
+        tare,
+        first_final,
+        second_final,
+    }
+}
+
+fn worked_run() -> Run {
+    Run {
+        number: 7,
+        day: SAMPLED,
+        meter: ABC_METER,
+        pitot: PITOT,
+        nozzle: NOZZLE,
+        barometer: 3_000,
+        stack_static: -68,
+        co2: 120,
+        o2: 60,
+        first_reading: 100_000,
+        last_reading: 140_000,
+        water: 1_000,
+        shape: Shape::Round,
+        sides: [240, 0],
+        to_next_disturbance: 480,
+        from_last_disturbance: 1_920,
+        blank_residue: 8,
+        blank_volume: 200,
+        rinse_volume: 100,
+        acetone_density: 7_851,
+        points: vec![
+            Point {
+                seconds: 450,
+                velocity_head: 500,
+                orifice_head: 200,
+                stack_temperature: 2_000,
+                meter_inlet: 800,
+                meter_outlet: 800,
+            };
+            8
+        ],
+        segments: vec![Segment {
+            seconds: 3_600,
+            leak: 30,
+        }],
+        weighings: vec![
+            weighing(WeighingKind::Filter, 4_000, 4_912, 4_910),
+            weighing(WeighingKind::Rinse, 1_000_000, 1_000_153, 1_000_150),
+        ],
+    }
+}
+
+/// Accepted and void runs side by side. Two makers' meters share the serial
+/// 10442, so that a reader can see the maker count.
+pub fn several_runs() -> Job {
+    let clean = Run {
+        number: 1,
+        segments: vec![
+            Segment {
+                seconds: 1_800,
+                leak: 0,
+            },
+            Segment {
+                seconds: 1_800,
+                leak: 20,
+            },
+        ],
+        ..worked_run()
+    };
+    let moved_factor = Run {
+        number: 2,
+        meter: XYZ_METER,
+        ..worked_run()
+    };
+    // The pitot is certified only from day 8990 on.
+    let before_the_pitot = Run {
+        number: 3,
+        day: 8_989,
+        meter: XYZ_METER,
+        ..worked_run()
+    };
+    let uncertified_meter = Run {
+        number: 10,
+        meter: instrument(b"XYZ", 10_443),
+        ..worked_run()
+    };
+    let nothing_metered = Run {
+        number: 11,
+        last_reading: 100_000,
+        ..worked_run()
+    };
+    let no_flow = Run {
+        number: 12,
+        points: vec![
+            Point {
+                velocity_head: 0,
+                ..worked_run().points[0]
+            };
+            8
+        ],
+        ..worked_run()
+    };
+    let negative_catch = Run {
+        number: 13,
+        weighings: vec![weighing(WeighingKind::Filter, 4_000, 3_990, 3_980)],
+        ..worked_run()
+    };
+    Job {
+        certificates: vec![
+            meter(ABC_METER, CALIBRATED, 10_000),
+            meter(XYZ_METER, 8_980, 10_300),
+            pitot(PITOT, CALIBRATED, 840),
+            nozzle(NOZZLE, 8_980, [250, 250, 250]),
+            nozzle(WORN_NOZZLE, CALIBRATED, [250, 252, 255]),
+            meter(ABC_METER, RECALIBRATED, 9_800),
+            meter(XYZ_METER, RECALIBRATED, 9_700),
+        ],
+        runs: vec![
+            clean,
+            moved_factor,
+            before_the_pitot,
+            uncertified_meter,
+            nothing_metered,
+            no_flow,
+            negative_catch,
+            rectangular_run(),
+            last_recalibration_run(),
+        ],
+    }
+}
+
+/// A rectangular stack with trouble at single points, segments and weighings,
+/// sampled through the worn nozzle.
+fn rectangular_run() -> Run {
+    let mut run = Run {
+        number: 20,
+        nozzle: WORN_NOZZLE,
+        shape: Shape::Rectangular,
+        sides: [300, 200],
+        to_next_disturbance: 100,
+        from_last_disturbance: 2_000,
+        ..worked_run()
+    };
+    run.points = vec![
+        Point {
+            seconds: 300,
+            ..run.points[0]
+        };
+        12
+    ];
+    run.points[2].seconds = 119;
+    run.points[3].seconds = 481;
+    run.segments = vec![
+        Segment {
+            seconds: 1_200,
+            leak: 21,
+        },
+        Segment {
+            seconds: 1_200,
+            leak: 20,
+        },
+        Segment {
+            seconds: 1_200,
+            leak: 35,
+        },
+    ];
+    run.weighings[1].first_final = 1_000_156;
+    run
+}
+
+/// Sampled after the meter's last certificate, slowly, in a narrow stack.
+fn last_recalibration_run() -> Run {
+    Run {
+        number: 999,
+        day: RECALIBRATED,
+        last_reading: 135_000,
+        sides: [119, 0],
+        ..worked_run()
+    }
+}
+
+/// Refused with 5: the third point's stack temperature is -40.1 F.
+pub fn refused() -> Job {
+    let mut job = worked();
+    job.runs[0].points[2].stack_temperature = -401;
+    job
+}
+
+/// 17,161 bytes: every count at its greatest. The last run's certificates
+/// stand last.
+pub fn longest() -> Job {
+    let certificates = (1..=16).flat_map(certificates_of_longest).collect();
+    let runs = (1..=16).map(run_of_longest).collect();
+    Job { certificates, runs }
+}
+
+fn instruments_of_longest(k: u16) -> [Instrument; 3] {
+    let serial = u32::from(k);
+    [
+        instrument(b"MET", serial),
+        instrument(b"PIT", serial),
+        instrument(b"NOZ", serial),
+    ]
+}
+
+fn certificates_of_longest(k: u16) -> [Certificate; 4] {
+    let [meter_used, pitot_used, nozzle_used] = instruments_of_longest(k);
+    [
+        meter(meter_used, CALIBRATED, 9_900 + 10 * k),
+        meter(meter_used, RECALIBRATED, 10_100 - 10 * k),
+        pitot(pitot_used, CALIBRATED, 836 + k / 2),
+        nozzle(nozzle_used, CALIBRATED, [250, 250 + k % 4, 251]),
+    ]
+}
+
+fn run_of_longest(k: u16) -> Run {
+    let [meter, pitot, nozzle] = instruments_of_longest(k);
+    Run {
+        number: 62 * k,
+        meter,
+        pitot,
+        nozzle,
+        barometer: 2_950 + 5 * k,
+        first_reading: 1_000_000 * u32::from(k),
+        last_reading: 1_000_000 * u32::from(k) + 106_000,
+        water: 2_600 + 10 * k,
+        sides: [600 + k, 0],
+        to_next_disturbance: 400 + k,
+        from_last_disturbance: 3_000,
+        points: (1..=64).map(|i| point_of_longest(k, i)).collect(),
+        segments: (1..=16)
+            .map(|i| Segment {
+                seconds: 600,
+                leak: i + k,
+            })
+            .collect(),
+        weighings: (1..=8).map(|i| weighing_of_longest(k, i)).collect(),
+        ..worked_run()
+    }
+}
+
+fn point_of_longest(k: u16, i: u16) -> Point {
+    Point {
+        seconds: 150,
+        velocity_head: 430 + (7 * i + 11 * k) % 150,
+        orifice_head: 160 + (5 * i + 3 * k) % 80,
+        stack_temperature: 1_900 + ((13 * i + k) % 200) as i16,
+        meter_inlet: 780 + (i + k) as i16,
+        meter_outlet: 760 + i as i16,
+    }
+}
+
+fn weighing_of_longest(k: u16, i: u16) -> Weighing {
+    let kind = if i <= 4 {
+        WeighingKind::Filter
+    } else {
+        WeighingKind::Rinse
+    };
+    let tare = 4_000 * u32::from(i);
+    let second_final = tare + 200 + u32::from(k);
+    weighing(kind, tare, second_final + u32::from(i % 6), second_final)
+}

@@ -1,0 +1,37 @@
+//! The committed examples are what the samples make today.
+
+use independent::{job::Job, samples, sheet};
+
+fn check(name: &str, job: &Job, file: &[u8], text: &[u8]) {
+    assert!(job.bytes() == file, "{name}.job is out of date");
+    assert!(sheet(file) == text, "{name}.txt is out of date");
+}
+
+macro_rules! example {
+    ($name:literal) => {
+        include_bytes!(concat!("../../examples/", $name))
+    };
+}
+
+#[test]
+fn examples_are_current() {
+    check(
+        "worked",
+        &samples::worked(),
+        example!("worked.job"),
+        example!("worked.txt"),
+    );
+    check(
+        "several-runs",
+        &samples::several_runs(),
+        example!("several-runs.job"),
+        example!("several-runs.txt"),
+    );
+    check(
+        "refused",
+        &samples::refused(),
+        example!("refused.job"),
+        example!("refused.txt"),
+    );
+    assert!(samples::longest().bytes() == example!("longest.job"));
+}

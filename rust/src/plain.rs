@@ -1,0 +1,82 @@
+//! The five calls as the library gives them, over slices.
+
+mod library {
+    extern "C" {
+        pub fn leverbonnet_reduce(
+            job: *const u8,
+            job_len: usize,
+            run: u16,
+            lines: *mut u8,
+            lines_len: usize,
+            findings: *mut u8,
+            findings_len: usize,
+        ) -> u64;
+
+        pub fn leverbonnet_run_count(job: *const u8, job_len: usize) -> u64;
+
+        pub fn leverbonnet_run_number(job: *const u8, job_len: usize, index: u16) -> u64;
+
+        pub fn leverbonnet_round_layout(
+            points: u16,
+            diameter: u16,
+            nozzle: u16,
+            out: *mut u8,
+            out_len: usize,
+        ) -> u64;
+
+        pub fn leverbonnet_rect_layout(
+            points: u16,
+            first: u16,
+            second: u16,
+            out: *mut u8,
+            out_len: usize,
+        ) -> u64;
+    }
+}
+
+/// Works the run of that number into `lines` (20 of 9 bytes) and `findings` (4
+/// bytes each). Succeeds with the number of findings, plus 65,536 if accepted.
+pub fn reduce(job: &[u8], run_number: u16, lines: &mut [u8], findings: &mut [u8]) -> u64 {
+    // SAFETY: each pointer comes with the length of the slice it heads, the
+    // borrows keep the slices alive and apart, and the library keeps no pointer.
+    unsafe {
+        library::leverbonnet_reduce(
+            job.as_ptr(),
+            job.len(),
+            run_number,
+            lines.as_mut_ptr(),
+            lines.len(),
+            findings.as_mut_ptr(),
+            findings.len(),
+        )
+    }
+}
+
+/// Succeeds with the number of runs.
+pub fn run_count(job: &[u8]) -> u64 {
+    // SAFETY: the pointer heads a slice of that length, and is not kept.
+    unsafe { library::leverbonnet_run_count(job.as_ptr(), job.len()) }
+}
+
+/// Succeeds with the number of the run at that index, counted from 0; past the
+/// last run, refusal 10.
+pub fn run_number(job: &[u8], index: u16) -> u64 {
+    // SAFETY: the pointer heads a slice of that length, and is not kept.
+    unsafe { library::leverbonnet_run_number(job.as_ptr(), job.len(), index) }
+}
+
+/// Writes the distances of the points on a round stack's diameter, u32 each.
+/// Succeeds with the number of bytes written.
+pub fn round_layout(points: u16, diameter: u16, nozzle: u16, out: &mut [u8]) -> u64 {
+    // SAFETY: the pointer heads a slice of that length, and is not kept.
+    unsafe {
+        library::leverbonnet_round_layout(points, diameter, nozzle, out.as_mut_ptr(), out.len())
+    }
+}
+
+/// Writes the centers of a rectangular stack's cells, two u32 each. Succeeds
+/// with the number of bytes written.
+pub fn rect_layout(points: u16, first: u16, second: u16, out: &mut [u8]) -> u64 {
+    // SAFETY: the pointer heads a slice of that length, and is not kept.
+    unsafe { library::leverbonnet_rect_layout(points, first, second, out.as_mut_ptr(), out.len()) }
+}

@@ -1,0 +1,73 @@
+//! The typed calls on the proved library.
+
+use leverbonnet::{
+    rect_distances, reduce_run, round_distances, run_numbers, Class, Finding, Refusal,
+};
+
+const WORKED: &[u8] = include_bytes!("../../examples/worked.job");
+const SEVERAL_RUNS: &[u8] = include_bytes!("../../examples/several-runs.job");
+const REFUSED: &[u8] = include_bytes!("../../examples/refused.job");
+
+#[test]
+fn the_worked_run() {
+    let reduced = reduce_run(WORKED, 7).unwrap();
+    let lines = [
+        3600, 40000, 39400, 301471, 5400, 38801, 4707, 10819, 30160, 28844, 299500, 6600, 7071,
+        8741, 44385, 34089, 90604, 9980, 1056, 4199,
+    ];
+    assert!(reduced.accepted);
+    assert_eq!(reduced.lines, lines.map(Some));
+    let note = Finding {
+        rule: 11,
+        class: Class::Note,
+        place: 1,
+    };
+    assert_eq!(reduced.findings, [note]);
+}
+
+#[test]
+fn a_void_run_with_absent_lines() {
+    // Run 13 caught less than nothing and weighed no rinse.
+    let reduced = reduce_run(SEVERAL_RUNS, 13).unwrap();
+    assert!(!reduced.accepted);
+    assert_eq!(reduced.lines[18..], [Some(-24), None]);
+    let found = reduced.findings.iter();
+    let found: Vec<_> = found.map(|one| (one.rule, one.class, one.place)).collect();
+    let fault = Class::Fault;
+    assert_eq!(
+        found,
+        [
+            (11, Class::Note, 1),
+            (17, fault, 1),
+            (19, fault, 0),
+            (20, fault, 0)
+        ]
+    );
+}
+
+#[test]
+fn runs_in_file_order() {
+    let numbers = run_numbers(SEVERAL_RUNS);
+    assert_eq!(numbers, Ok(vec![1, 2, 3, 10, 11, 12, 13, 20, 999]));
+}
+
+#[test]
+fn refusals() {
+    let refusal = |number, place| Refusal { number, place };
+    assert_eq!(reduce_run(&[], 7), Err(refusal(1, 0)));
+    assert_eq!(run_numbers(REFUSED), Err(refusal(5, 167)));
+    assert_eq!(reduce_run(WORKED, 8), Err(refusal(10, 0)));
+    assert_eq!(round_distances(3, 240, 250), Err(refusal(11, 0)));
+    assert_eq!(rect_distances(8, 240, 240), Err(refusal(11, 0)));
+}
+
+#[test]
+fn layouts() {
+    let round = round_distances(6, 1_000, 250);
+    let thousandths = [44, 146, 296, 704, 854, 956];
+    assert_eq!(round, Ok(thousandths.map(|p| 100 * p).to_vec()));
+    let cells = rect_distances(12, 400, 300).unwrap();
+    assert_eq!(cells.len(), 12);
+    assert_eq!(cells[..2], [[5_000, 5_000], [15_000, 5_000]]);
+    assert_eq!(cells[11], [35_000, 25_000]);
+}
