@@ -1,0 +1,3 @@
+-- The laws of writes, which the layers above cite.
+pub mod Splice
+pub mod Bytes

@@ -1,0 +1,62 @@
+// What a call gives back: its answer as one number, and bytes written one after another into a buffer that the caller lends.
+// Each writer's contract says what every byte of the buffer is afterwards. Relies on nothing below it.
+
+ghost use mathlib.Core.Path.{_≡_};
+ghost use mathlib.Core.List.{List, [], _∷_};
+ghost use Prim.Native.Nat.{_+_, _<_, _≤_};
+ghost use lib.ListN.{length};
+ghost use Rattle.output.specs.Answers.{packed};
+ghost use Rattle.output.specs.Bytes.{le, bits};
+ghost use Rattle.output.specs.Splice.{spliced};
+
+// What a call answers: done, with a number; or refused, with the paper's number and the place.
+pub enum Answer {
+    Done(u32),
+    Refused(u32, u32),
+}
+
+impl Answer {
+    // The answer as the caller sees it: the refusal's number in the high 32 bits, 0 where there is none.
+    pub fn packed(self) -> u64
+        ensures { λ r. ⌜ r ≡ packed self ⌝ }
+    {
+        match self {
+            Answer::Done(value) => value as u64,
+            Answer::Refused(number, place) => number as u64 * 4294967296 + place as u64,
+        }
+    }
+}
+
+// One byte at a place.
+pub fn put_byte(out: &mut [u8], at: usize, byte: u8)
+    requires { ⌜ at < length (now out) ⌝ }
+    ensures { λ _. ⌜ now (out .exit) ≡ spliced (now (out .entry)) at (byte ∷ []) ⌝ }
+{
+    out[at] = byte;
+}
+
+// A number in `width` bytes at a place, the lowest first.
+pub fn put_number(out: &mut [u8], at: usize, width: usize, value: u64)
+    requires { ⌜ at + width ≤ length (now out) ⌝ }
+    ensures { λ _. ⌜ now (out .exit) ≡ spliced (now (out .entry)) at (le width value) ⌝ }
+{
+    let mut rest = value;
+    let mut i: usize = 0;
+    while i < width {
+        put_byte(out, at + i, (rest % 256) as u8);
+        rest = rest / 256;
+        i += 1;
+    }
+}
+
+// The 64 bits of a signed number.
+pub fn bits(value: i64) -> u64
+    ensures { λ r. ⌜ r ≡ bits value ⌝ }
+{
+    if value < 0 {
+        let below = !value;
+        18446744073709551615 - below as u64
+    } else {
+        value as u64
+    }
+}
