@@ -1,3 +1,4 @@
 -- The laws of the definitions, which the layers above cite.
 pub mod Rounding
 pub mod Root
+pub mod Signs

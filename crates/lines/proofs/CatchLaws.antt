@@ -1,16 +1,17 @@
 -- A difference of two numbers that may be negative, as the machine's signed numbers hold it.
 use Prim.Native.Nat.{ℕ, zero, suc, _+_, _-_, _^_, _≤_, _<_}
-use mathlib.Core.Path.{_≡_, refl, sym, _∙_, ap, ap₂, subst⁻¹}
-use mathlib.Core.Bool.{true, false, true≢false}
+use mathlib.Core.Path.{_≡_, refl, sym, _∙_, ap₂}
+use mathlib.Core.Bool.{true, false}
 use native.Mathlib.Nat.{add-zero, sub-zero, lt-of-not-le}
 use native.Mathlib.Decide.{decLe}
 use native.Mathlib.Omega.{arith}
-use borrow.Author.Tests.{ltb-true, lt-ltb, le-ltb}
+use borrow.Author.Tests.{lt-ltb, le-ltb}
 use lib.IntN.{ℤ, pos, negsuc, subℕ, pos-ne-negsuc, _-ℤ_}
-use lib.Signed.{mag, ltZ}
-use mir.Facts.{toZ-ofZ, toZ-pos}
+use lib.Signed.{ltZ}
+use mir.Facts.{toZ-pos}
 use mir.Syntax.{w64}
 use mir.Val.{SFits, toZ, ofZ}
+use Rattle.arith.proofs.Signs.{Negative, NotNegative, negative, not-negative}
 use Rattle.lines.specs.Promise.{CatchOk}
 
 -- The difference of two numbers is taken as signed numbers are
@@ -48,26 +49,8 @@ catch-fits (pos n) ok = record { sfits = omega (arith, ok .most n refl) }
 catch-fits (negsuc n) ok = record { sfits = omega (arith, ok .least n refl) }
 
 -- a catch that is below zero, and one that is not
-pub record Caught (z : ℤ) : Type 0 where
-  pub weight : ℕ
-  pub is : z ≡ pos weight
-  pub bits : toZ w64 (ofZ w64 z) ≡ pos weight
-  pub most : weight ≤ 32000000
+pub lost : (z : ℤ) → CatchOk z → ltZ (toZ w64 (ofZ w64 z)) (pos 0) ≡ true → Negative w64 z
+lost z ok e = negative w64 z (catch-fits z ok) e
 
-pub record Lost (z : ℤ) : Type 0 where
-  pub weight : ℕ
-  pub is : z ≡ negsuc weight
-
-below-zero : (z : ℤ) → ltZ z (pos 0) ≡ true → Lost z
-below-zero (pos n) e = let h : n < 0 = ltb-true n 0 e in absurd (omega arith)
-below-zero (negsuc n) e = record { weight = n; is = refl }
-
-from-zero : (z : ℤ) → CatchOk z → ltZ z (pos 0) ≡ false → Caught z
-from-zero (pos n) ok e = record { weight = n; is = refl; bits = toZ-ofZ (catch-fits (pos n) ok); most = ok .most n refl }
-from-zero (negsuc n) ok e = absurd (true≢false e)
-
-pub lost : (z : ℤ) → CatchOk z → ltZ (toZ w64 (ofZ w64 z)) (pos 0) ≡ true → Lost z
-lost z ok e = below-zero z (rw (toZ-ofZ (catch-fits z ok)) at e)
-
-pub caught : (z : ℤ) → CatchOk z → ltZ (toZ w64 (ofZ w64 z)) (pos 0) ≡ false → Caught z
-caught z ok e = from-zero z ok (rw (toZ-ofZ (catch-fits z ok)) at e)
+pub caught : (z : ℤ) → CatchOk z → ltZ (toZ w64 (ofZ w64 z)) (pos 0) ≡ false → NotNegative w64 z
+caught z ok e = not-negative w64 z (catch-fits z ok) e

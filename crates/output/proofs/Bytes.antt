@@ -40,15 +40,15 @@ written-more {old} {at} {width} {value} {out} {next} {rest} {i} w inside e =
     let size : length (le i value) ≡ i = length-le i value in
     let fits : at + length (le i value) + 1 ≤ length old = omega (arith, w .room) in
     let fewer : rest / 256 ≡ value / (256 ^ i * 256) = ap (λ n. n / 256) (w .left) ∙ div-div-eq-div-mul value (256 ^ i) 256 in
-    record
-    { past = omega arith
-    ; room = w .room
-    ; left = fewer ∙ rw (add-one i, pow-suc 256 i)
-    ; is =
-        e
-        ∙ rw (w .is, w .left, add-one i)
-        (ap (λ n. spliced (spliced old at (le i value)) (at + n) (value / 256 ^ i % 256 ∷ [])) (sym size)
-        ∙ spliced-more old at (le i value) (value / 256 ^ i % 256 ∷ []) fits)
+    record {
+      past = omega arith;
+      room = w .room;
+      left = fewer ∙ rw (add-one i, pow-suc 256 i);
+      is =
+          e
+          ∙ rw (w .is, w .left, add-one i)
+          (ap (λ n. spliced (spliced old at (le i value)) (at + n) (value / 256 ^ i % 256 ∷ [])) (sym size)
+          ∙ spliced-more old at (le i value) (value / 256 ^ i % 256 ∷ []) fits);
     }
 
 pub written-all : {old : List ℕ} {at width value : ℕ} {out : List ℕ} {rest i : ℕ} → Written old at width value out rest i → width ≤ i → out ≡ spliced old at (le width value)

@@ -1,0 +1,4 @@
+-- The laws of texts, which the writers' proofs share.
+pub mod Decimals
+pub mod Texts
+pub mod SheetTexts

@@ -1,0 +1,3 @@
+-- The characters of a sheet.
+pub mod Numbers
+pub mod Sheets

@@ -1,0 +1,42 @@
+-- The twenty lines of a sheet as characters: number, value and the end of the line.
+use Prim.Native.Nat.{ℕ, zero, suc, _+_}
+use mathlib.Core.List.{List, [], _∷_, _++_}
+use lib.IntN.{pos}
+use lib.ListN.{getD}
+use Rattle.lines.specs.declared.Entry.{Entry}
+use Rattle.lines.specs.declared.Line.{Line}
+use Rattle.lines.specs.declared.Line.the-variants.{Present, Absent}
+use Rattle.lines.specs.declared.Sheet.{Sheet}
+use Rattle.text.specs.Numbers.{decimal, signedDecimal}
+
+-- a space, a dash, the end of a line
+abbrev pub space : List ℕ
+space = 32 ∷ []
+
+abbrev pub dash : List ℕ
+dash = 45 ∷ []
+
+abbrev pub newline : List ℕ
+newline = 10 ∷ []
+
+-- a line's value, or a dash where it is absent
+unfoldable pub valueText : Line → List ℕ
+valueText (Present z) = signedDecimal z
+valueText Absent = dash
+
+-- a line: its number, a space, its value
+unfoldable pub lineText : ℕ → Entry → List ℕ
+lineText number entry = decimal number ++ space ++ valueText (entry .line) ++ newline
+
+-- what stands past the last entry
+abbrev pub noEntry : Entry
+noEntry = record { line = Present (pos 0) }
+
+-- the first n lines
+unfoldable pub linesText : List Entry → ℕ → List ℕ
+linesText entries zero = []
+linesText entries (suc n) = linesText entries n ++ lineText (n + 1) (getD entries n noEntry)
+
+-- all twenty
+unfoldable pub sheetText : Sheet → List ℕ
+sheetText sheet = linesText (sheet .entries) 20

@@ -1,0 +1,5 @@
+// The characters of a sheet. Each writer puts its text at a place of a buffer and answers the place after it;
+// its contract names the list of characters. Relies on the promises of `output` and on the types of the sheet.
+
+pub mod numbers;
+pub mod sheets;
