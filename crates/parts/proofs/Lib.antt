@@ -1,0 +1,4 @@
+-- The laws of the records, which the layers above cite.
+pub mod Arrays
+pub mod Layouts
+pub mod SignedFields

@@ -1,0 +1,10 @@
+// The records of a job file: what each holds, and the trouble met in it. A record's trouble is looked at in order of
+// place, so that the first one met is the answer. Relies on the numbers and the trouble of fields and on the kinds of reading.
+
+pub mod certificate;
+pub mod header;
+pub mod identity;
+pub mod point;
+pub mod segment;
+pub mod weighing;
+pub mod whole;
