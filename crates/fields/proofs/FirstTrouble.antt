@@ -4,7 +4,7 @@ use mathlib.Core.Path.{_≡_, refl, sym, _∙_, ap, subst}
 use mathlib.Core.Bool.{Bool, true, false, cond, false≢true, _&&_}
 use mathlib.Core.Logic.{⊎-elim}
 use mathlib.Core.List.{List, [], _∷_}
-use native.Mathlib.Nat.{le-of-suc-le-suc, eq-or-lt-of-le}
+use native.Mathlib.Nat.{le-of-suc-le-suc, le-antisymm, lt-trans, lt-suc-self, eq-or-lt-of-le}
 use native.Mathlib.Numerals.{add-one}
 use native.Mathlib.Omega.{arith}
 use borrow.Author.Tests.{leb-true}
@@ -59,6 +59,10 @@ judged-clear false n p e = clear-not-at e refl
 -- one check of the code is one row of the table
 pub step : {r t u : Trouble} {a b : Bool} (n p : ℕ) → r ≡ unless t a n p → t ≡ u → a ≡ b → r ≡ unless u b n p
 step n p e f g = rw (← f, ← g) e
+
+-- and a call of the code is several
+pub steps : (rs : List Row) {r t u : Trouble} → r ≡ checks t rs → t ≡ u → r ≡ checks u rs
+steps rs e f = e ∙ ap (λ (t : Trouble). checks t rs) f
 
 -- every row is good
 abbrev pub AllGood : List Row → Type 0
@@ -142,11 +146,6 @@ pub none-clear : (f : ℕ → Trouble) → upTo f 0 ≡ Clear
 unfolding upTo
 none-clear f = refl
 
--- one more clear
-pub more-clear : (f : ℕ → Trouble) (i : ℕ) → upTo f i ≡ Clear → f i ≡ Clear → upTo f (i + 1) ≡ Clear
-unfolding upTo
-more-clear f i e g = rw add-one (first-clear (f i) e ∙ g)
-
 -- clear as a whole: clear each
 pub each-clear : (f : ℕ → Trouble) (n : ℕ) → upTo f n ≡ Clear → (i : ℕ) → i < n → f i ≡ Clear
 unfolding upTo
@@ -157,17 +156,36 @@ each-clear f (suc n) e i h =
     (λ less. each-clear f n (clear-left (upTo f n) (f n) e) i less)
     (eq-or-lt-of-le (le-of-suc-le-suc h))
 
--- once troubled, troubled to the end
-pub stays-at : (f : ℕ → Trouble) (i m : ℕ) {n p : ℕ} → upTo f i ≡ Clear → f i ≡ At n p → i < m → upTo f m ≡ At n p
+-- clear each: clear as a whole
+pub all-clear : (f : ℕ → Trouble) (n : ℕ) → ((i : ℕ) → i < n → f i ≡ Clear) → upTo f n ≡ Clear
 unfolding upTo
-stays-at f i zero e g h = absurd (omega arith)
-stays-at f i (suc m) e g h =
-    ⊎-elim
-    (λ same. first-clear (f m) (ap (upTo f) (sym same) ∙ e) ∙ ap f (sym same) ∙ g)
-    (λ less. first-at (f m) (stays-at f i m e g less))
-    (eq-or-lt-of-le (le-of-suc-le-suc h))
+all-clear f zero h = refl
+all-clear f (suc n) h = first-clear (f n) (all-clear f n (λ i l. h i (lt-trans l (lt-suc-self n)))) ∙ h n (lt-suc-self n)
 
 pub up-told : (P : ℕ → ℕ → Bool) (f : ℕ → Trouble) (n : ℕ) → ((i : ℕ) → told P (f i) ≡ true) → told P (upTo f n) ≡ true
 unfolding upTo
 up-told P f zero h = refl
 up-told P f (suc n) h = first-told P (upTo f n) (f n) (up-told P f n h) (h n)
+
+-- A loop over records, where r is the trouble of the next one
+
+-- r is clear: so are the records with it
+pub goes-on : (f : ℕ → Trouble) (i : ℕ) {r : Trouble} → upTo f i ≡ Clear → r ≡ f i → r ≡ Clear → upTo f (i + 1) ≡ Clear
+unfolding upTo
+goes-on f i e g h = rw add-one (first-clear (f i) e ∙ sym g ∙ h)
+
+-- r is not: it is the trouble of them all
+pub stops : (f : ℕ → Trouble) (i m : ℕ) {r : Trouble} {n p : ℕ} → upTo f i ≡ Clear → r ≡ f i → r ≡ At n p → i < m → r ≡ upTo f m
+unfolding upTo
+stops f i zero e g h less = absurd (omega arith)
+stops f i (suc m) e g h less =
+    ⊎-elim
+    (λ same. sym (first-clear (f m) (ap (upTo f) (sym same) ∙ e) ∙ ap f (sym same) ∙ sym g))
+    (λ before.
+    let rest = stops f i m e g h before in
+    h ∙ sym (first-at (f m) (sym rest ∙ h)))
+    (eq-or-lt-of-le (le-of-suc-le-suc less))
+
+-- none is left
+pub ends : (f : ℕ → Trouble) (i m : ℕ) → upTo f i ≡ Clear → i ≤ m → m ≤ i → Clear ≡ upTo f m
+ends f i m e low high = sym (ap (upTo f) (le-antisymm high low) ∙ e)

@@ -34,9 +34,9 @@ module _ {A : Type 0} (size : ℕ) (none : A) (f : ℕ → A) where
       ⊎-elim
       (λ same. ap (padded size none f) same)
       (λ less.
-        let below : i ≤ n = le-of-suc-le-suc less in
-        let room : size ≤ n = omega arith in
-        pad-full i n full below ∙ sym (set-out _ n (f n) (rw (pad-length n) room)))
+      let below : i ≤ n = le-of-suc-le-suc less in
+      let room : size ≤ n = omega arith in
+      pad-full i n full below ∙ sym (set-out _ n (f n) (rw (pad-length n) room)))
       (eq-or-lt-of-le h)
 
   -- what was filled in
@@ -47,8 +47,8 @@ module _ {A : Type 0} (size : ℕ) (none : A) (f : ℕ → A) where
       ⊎-elim
       (λ same. ap (λ (j : ℕ). getD (padded size none f (suc n)) j none) same ∙ getD-set-same (padded size none f n) n (f n) none (rw (pad-length n) room) ∙ ap f (sym same))
       (λ less.
-        let other : i ≡ n → ⊥ = λ e. omega arith in
-        getD-set-other (padded size none f n) n i (f n) none other ∙ pad-at n i less (omega arith))
+      let other : i ≡ n → ⊥ = λ e. omega arith in
+      getD-set-other (padded size none f n) n i (f n) none other ∙ pad-at n i less (omega arith))
       (eq-or-lt-of-le (le-of-suc-le-suc h))
 
 -- the same elements: the same array

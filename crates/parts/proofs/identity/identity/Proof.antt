@@ -29,10 +29,10 @@ returns : tie.Need-returns
 returns c =
     let letters = c .before .before .before in
     λ i.
-      record
-      { maker = record { first = letters .byte .ensures i; second = c .before .before .byte2 .ensures i; third = c .before .byte3 .ensures i }
-      ; serial = c .u32-at .ensures i
-      }
+    record {
+      maker = record { first = letters .byte .ensures i; second = c .before .before .byte2 .ensures i; third = c .before .byte3 .ensures i };
+      serial = c .u32-at .ensures i;
+    }
 
 pub identity-spec : {M : Type 1} → statement M
 identity-spec =
