@@ -1,4 +1,5 @@
 -- The laws of the records, which the layers above cite.
 pub mod Arrays
 pub mod Layouts
+pub mod Places
 pub mod SignedFields

@@ -29,14 +29,14 @@ returns c =
     let day = first .before in
     let identity = day .before in
     λ i.
-      record
-      { kind = identity .before .byte .ensures i
-      ; identity = identity .identity .ensures i
-      ; day = day .u16-at .ensures i
-      ; first = first .u16-at2 .ensures i
-      ; second = second .u16-at3 .ensures i
-      ; third = c .u16-at4 .ensures i
-      }
+    record {
+      kind = identity .before .byte .ensures i;
+      identity = identity .identity .ensures i;
+      day = day .u16-at .ensures i;
+      first = first .u16-at2 .ensures i;
+      second = second .u16-at3 .ensures i;
+      third = c .u16-at4 .ensures i;
+    }
 
 pub certificate-spec : {M : Type 1} → statement M
 certificate-spec =

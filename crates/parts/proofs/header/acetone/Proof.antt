@@ -21,7 +21,7 @@ returns c =
     let rinse = c .before in
     let blank = rinse .before in
     λ i.
-      record { residue = blank .before .u16-at .ensures i; blank = blank .u16-at2 .ensures i; rinse = rinse .u16-at3 .ensures i; density = c .u16-at4 .ensures i }
+    record { residue = blank .before .u16-at .ensures i; blank = blank .u16-at2 .ensures i; rinse = rinse .u16-at3 .ensures i; density = c .u16-at4 .ensures i }
 
 pub acetone-spec : {M : Type 1} → statement M
 acetone-spec =

@@ -73,24 +73,24 @@ returns c =
     let day = meter .before in
     let number = day .before in
     λ i.
-      record
-      { number = number .u16-at .ensures i
-      ; day = day .u16-at2 .ensures i
-      ; meter = meter .identity .ensures i
-      ; pitot = pitot .identity2 .ensures i
-      ; nozzle = nozzle .identity3 .ensures i
-      ; pb = pb .u16-at3 .ensures i
-      ; pg = read-back (pg .i16-at .ok) (pg .i16-at .ensures) i
-      ; co2 = co2 .u16-at4 .ensures i
-      ; o2 = o2 .u16-at5 .ensures i
-      ; first = first .u32-at .ensures i
-      ; last = last .u32-at2 .ensures i
-      ; water = water .u16-at6 .ensures i
-      ; site = site .site .ensures i
-      ; acetone = acetone .acetone .ensures i
-      ; counts = counts .counts .ensures i
-      ; spare = c .byte .ensures i
-      }
+    record {
+      number = number .u16-at .ensures i;
+      day = day .u16-at2 .ensures i;
+      meter = meter .identity .ensures i;
+      pitot = pitot .identity2 .ensures i;
+      nozzle = nozzle .identity3 .ensures i;
+      pb = pb .u16-at3 .ensures i;
+      pg = read-back (pg .i16-at .ok) (pg .i16-at .ensures) i;
+      co2 = co2 .u16-at4 .ensures i;
+      o2 = o2 .u16-at5 .ensures i;
+      first = first .u32-at .ensures i;
+      last = last .u32-at2 .ensures i;
+      water = water .u16-at6 .ensures i;
+      site = site .site .ensures i;
+      acetone = acetone .acetone .ensures i;
+      counts = counts .counts .ensures i;
+      spare = c .byte .ensures i;
+    }
 
 pub header-spec : {M : Type 1} → statement M
 header-spec =

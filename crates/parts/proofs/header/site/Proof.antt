@@ -25,13 +25,13 @@ returns c =
     let second = next .before in
     let first = second .before in
     λ i.
-      record
-      { shape = first .before .byte .ensures i
-      ; first = first .u16-at .ensures i
-      ; second = second .u16-at2 .ensures i
-      ; next = next .u16-at3 .ensures i
-      ; last = c .u16-at4 .ensures i
-      }
+    record {
+      shape = first .before .byte .ensures i;
+      first = first .u16-at .ensures i;
+      second = second .u16-at2 .ensures i;
+      next = next .u16-at3 .ensures i;
+      last = c .u16-at4 .ensures i;
+    }
 
 pub site-spec : {M : Type 1} → statement M
 site-spec =
