@@ -75,7 +75,7 @@ fn acetone(t: &[u8]) -> Acetone
     }
 }
 
-fn counts(t: &[u8]) -> Counts
+pub fn counts(t: &[u8]) -> Counts
     ensures { λ r. ⌜ r ≡ counts (now (t .entry)) ⌝ }
 {
     Counts {

@@ -1,0 +1,1 @@
+-- The laws of a job, which the layers above cite.
