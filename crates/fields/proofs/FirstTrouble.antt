@@ -4,7 +4,7 @@ use mathlib.Core.Path.{_≡_, refl, sym, _∙_, ap, subst}
 use mathlib.Core.Bool.{Bool, true, false, cond, false≢true, _&&_}
 use mathlib.Core.Logic.{⊎-elim}
 use mathlib.Core.List.{List, [], _∷_}
-use native.Mathlib.Nat.{le-of-suc-le-suc, le-antisymm, lt-trans, lt-suc-self, eq-or-lt-of-le}
+use native.Mathlib.Nat.{zero-add, le-of-suc-le-suc, le-antisymm, lt-trans, lt-suc-self, eq-or-lt-of-le}
 use native.Mathlib.Numerals.{add-one}
 use native.Mathlib.Omega.{arith}
 use borrow.Author.Tests.{leb-true}
@@ -139,6 +139,11 @@ from-told P start (At n p) e = e
 pub from-clear : (start : ℕ) (t : Trouble) → from start t ≡ Clear → t ≡ Clear
 from-clear start Clear e = refl
 from-clear start (At n p) e = clear-not-at e refl
+
+-- a record that starts the file
+pub from-zero : (t : Trouble) → t ≡ from 0 t
+from-zero Clear = refl
+from-zero (At n p) = rw (zero-add p)
 
 -- Records in a row
 

@@ -1,1 +1,2 @@
 -- The laws of a job, which the layers above cite.
+pub mod LookBack
