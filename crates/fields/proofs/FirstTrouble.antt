@@ -27,6 +27,14 @@ pub first-at : {t : Trouble} (u : Trouble) {n p : ℕ} → t ≡ At n p → firs
 unfolding first
 first-at u e = rw e
 
+-- An early answer of the code: r is the trouble t, and no later one counts ..
+pub first-met : {r t : Trouble} (u : Trouble) {n p : ℕ} → r ≡ t → r ≡ At n p → r ≡ first t u
+first-met u e told = told ∙ sym (first-at u (sym e ∙ told))
+
+-- .. or t was clear, and r is what comes later
+pub first-passed : {q t r u : Trouble} → q ≡ t → q ≡ Clear → r ≡ u → r ≡ first t u
+first-passed {u = u} e told h = h ∙ sym (first-clear u (sym e ∙ told))
+
 -- nothing after the first trouble: the same trouble
 pub clear-last : (t : Trouble) → first t Clear ≡ t
 unfolding first

@@ -1,2 +1,3 @@
 -- The laws of a job, which the layers above cite.
+pub mod ClearRuns
 pub mod LookBack

@@ -1,80 +1,90 @@
+-- The loop keeps that the certificates passed are clear and held, and stops at the first that is not.
+use Prim.Native.Nat.{_-_, _≤_}
+use mathlib.Core.Path.{_≡_, _∙_, ap}
+use native.Mathlib.Nat.{le-antisymm}
+use borrow.Author.Needs.{needs}
+use Rattle.fields.specs.declared.trouble.Trouble.the-variants.{Clear}
+use Rattle.fields.specs.Trouble.{upTo}
+use Rattle.fields.proofs.FirstTrouble.{clear-not-at, none-clear, goes-on, stops, ends}
+use Rattle.parts.specs.Arrays.{padded}
+use Rattle.parts.specs.Values.{certificate}
+use Rattle.parts.proofs.Arrays.{pad-none, pad-more}
+use Rattle.job.specs.Places.{certificateOf}
+use Rattle.job.specs.Troubles.{entryTrouble}
+use Rattle.job.specs.Reading.{noCertificate}
 use Rattle.job.proofs.certificates.read.Statement.{statement}
 use Rattle.job.proofs.certificates.read.Tie as tie
-use Rattle.job.proofs.certificates.read.Reads as reads
-use Rattle.job.proofs.certificates.read.Lts as lts
-use Rattle.fields.proofs.numbers.tail.Reads as tail-reads
-use Rattle.job.proofs.certificates.entry_trouble.Reads as entry-trouble-reads
-use Rattle.job.proofs.certificates.none.Reads as none-reads
-use Rattle.parts.proofs.certificate.certificate.Reads as certificate-reads
 
 abbrev Inv-loop : tie.InvT-loop
-Inv-loop s n all₀ k₀ all k = ?
+Inv-loop s n all₀ k₀ all k = (k ≤ n) × (upTo (entryTrouble s) k ≡ Clear) × (all ≡ padded 64 noCertificate (certificateOf s) k)
 
 abbrev μ-loop : tie.MeasureT-loop
-μ-loop s n all₀ k₀ all k = ?
+μ-loop s n all₀ k₀ all k = n - k
 
--- src/certificates.rt:93:19
 none-requires : tie.Need-none-requires Inv-loop μ-loop
-none-requires c κs = ?
+none-requires c κs = search needs
 
--- src/certificates.rt:95:5
 loop-holds : tie.Need-loop-holds Inv-loop μ-loop
-loop-holds c = ?
+loop-holds c = (search needs, none-clear _, c .none .ensures ∙ pad-none 64 noCertificate _)
 
--- src/certificates.rt:96:13
 entry-trouble-requires : tie.Need-entry-trouble-requires Inv-loop μ-loop
-entry-trouble-requires c κs = ?
+entry-trouble-requires c κs = (search needs, c .before .loop .inv .2)
 
 enum-told : tie.Need-enum-told Inv-loop μ-loop
-enum-told c = ?
+enum-told c = search needs
 
--- src/certificates.rt:98:39
 enum-told-2 : tie.Need-enum-told-2 Inv-loop μ-loop
-enum-told-2 c = ?
+enum-told-2 c = search needs
 
--- src/certificates.rt:98:13
 returns : tie.Need-returns Inv-loop μ-loop
-returns c = ?
+returns c =
+    let turn = c .before .before .before in
+    let told = c .enum-told2 .given .1 in
+    record
+    { trouble = stops _ _ _ (turn .before .loop .inv .1) (c .before .before .entry-trouble .ensures) told (turn .loop-test .taken)
+    ; all = λ e. clear-not-at e told
+    }
 
--- src/certificates.rt:100:73
 mul-tail : tie.Need-mul-tail Inv-loop μ-loop
-mul-tail c = ?
+mul-tail c = search needs
 
--- src/certificates.rt:100:60
 add-tail : tie.Need-add-tail Inv-loop μ-loop
-add-tail c = ?
+add-tail c = search needs
 
--- src/certificates.rt:100:43
 tail-requires : tie.Need-tail-requires Inv-loop μ-loop
-tail-requires c κs = ?
+tail-requires c κs = search needs
 
--- src/certificates.rt:100:18
 certificate-requires : tie.Need-certificate-requires Inv-loop μ-loop
-certificate-requires c κs = ?
+certificate-requires c κs = search needs
 
--- src/certificates.rt:100:9
 mul-all : tie.Need-mul-all Inv-loop μ-loop
-mul-all c = ?
+mul-all c = search needs
 
--- src/certificates.rt:100:9
 array-set-from-all : tie.Need-array-set-from-all Inv-loop μ-loop
-array-set-from-all c = ?
+array-set-from-all c = search needs
 
--- src/certificates.rt:101:9
 add-k : tie.Need-add-k Inv-loop μ-loop
-add-k c = ?
+add-k c = search needs
 
--- src/certificates.rt:95:5
 loop-less : tie.Need-loop-less Inv-loop μ-loop
-loop-less c = ?
+loop-less c = search needs
 
--- src/certificates.rt:95:5
 loop-again : tie.Need-loop-again Inv-loop μ-loop
-loop-again c = ?
+loop-again c =
+    let call = c .before .before .before .before in
+    let turn = call .before .before .loop .inv in
+    ( search needs
+    , goes-on _ _ (turn .1) (call .entry-trouble .ensures) (c .before .before .enum-told .given .1)
+    , pad-more 64 noCertificate _ _ (turn .2) (c .certificate .ensures ∙ ap certificate (c .before .tail .ensures))
+    )
 
--- src/certificates.rt:89:1
 returns-2 : tie.Need-returns-2 Inv-loop μ-loop
-returns-2 c = ?
+returns-2 c =
+    let turn = c .before .loop .inv in
+    record
+    { trouble = ends _ _ _ (turn .1) (turn .0) (c .loop-test .left)
+    ; all = λ e. turn .2 ∙ ap (padded 64 noCertificate _) (le-antisymm (turn .0) (c .loop-test .left))
+    }
 
 pub read-spec : {M : Type 1} → statement M
 read-spec =

@@ -1,60 +1,69 @@
+-- Both sums are those of the file, and each early answer is the first test that fails.
+use Prim.Native.Nat.{ℕ, _+_, _*_}
+use mathlib.Core.Path.{_∙_, ap, ap₂}
+use mathlib.Core.List.{List}
+use borrow.Author.Tests.{not-true, not-false}
 use borrow.Author.Needs.{needs}
+use lib.Dec.{eqb}
+use Rattle.readings.specs.Ranges.{totalSeconds}
+use Rattle.parts.specs.Values.{point, segment}
+use Rattle.parts.proofs.Places.{summed}
 use Rattle.job.proofs.runs.good_seconds.Statement.{statement}
 use Rattle.job.proofs.runs.good_seconds.Tie as tie
-use Rattle.job.proofs.runs.good_seconds.Reads as reads
-use Rattle.job.proofs.runs.good_seconds.Lts as lts
-use Rattle.fields.proofs.numbers.tail.Reads as tail-reads
-use Rattle.parts.proofs.point.seconds.Reads as point-seconds-reads
-use Rattle.parts.proofs.segment.seconds.Reads as segment-seconds-reads
-use Rattle.readings.proofs.points.TotalSeconds.check.Reads as check-reads
 
--- src/runs.rt:28:18
 cast-points : tie.Need-cast-points
 cast-points c = search needs
 
--- src/runs.rt:29:20
 cast-segments : tie.Need-cast-segments
 cast-segments c = search needs
 
--- src/runs.rt:30:14
 add-at : tie.Need-add-at
 add-at c = search needs
 
--- src/runs.rt:31:36
 tail-requires : tie.Need-tail-requires
 tail-requires c κs = search needs
 
--- src/runs.rt:31:9
 seconds-requires : tie.Need-seconds-requires
 seconds-requires c κs = search needs
 
--- src/runs.rt:32:62
 mul-tail : tie.Need-mul-tail
 mul-tail c = search needs
 
--- src/runs.rt:32:57
 add-tail : tie.Need-add-tail
 add-tail c = search needs
 
--- src/runs.rt:32:40
 tail-requires-2 : tie.Need-tail-requires-2
 tail-requires-2 c κs = search needs
 
--- src/runs.rt:32:9
 seconds-requires-2 : tie.Need-seconds-requires-2
 seconds-requires-2 c κs = search needs
 
--- src/runs.rt:33:9
 check-requires : tie.Need-check-requires
 check-requires c κs = search needs
 
--- src/runs.rt:34:9
 returns : tie.Need-returns
-returns c = ?
+returns c =
+    let check = c .before .check in
+    let points = c .before .before .before .before in
+    let start = points .before .before .before .before .before in
+    let s = start .args .s .now in
+    let n = start .args .n in
+    let at = start .args .start + 64 in
+    let by-points = summed (λ (t : List ℕ). point t .seconds) 12 s at (n .points) (points .seconds .ensures) (points .before .tail .ensures) in
+    rw (← check .ensures ∙ ap totalSeconds by-points, not-true (check .result) (c .if1 .taken))
 
--- src/runs.rt:24:1
 returns-2 : tie.Need-returns-2
-returns-2 c = ?
+returns-2 c =
+    let check = c .before .check in
+    let segments = c .before .before in
+    let points = segments .before .before in
+    let start = points .before .before .before .before .before in
+    let s = start .args .s .now in
+    let n = start .args .n in
+    let at = start .args .start + 64 in
+    let by-points = summed (λ (t : List ℕ). point t .seconds) 12 s at (n .points) (points .seconds .ensures) (points .before .tail .ensures) in
+    let by-segments = summed (λ (t : List ℕ). segment t .seconds) 4 s (at + 12 * n .points) (n .segments) (segments .seconds2 .ensures) (segments .before .tail2 .ensures) in
+    rw (← check .ensures ∙ ap totalSeconds by-points, not-false (check .result) (c .if1 .left)) (ap₂ eqb by-segments by-points)
 
 pub good-seconds-spec : {M : Type 1} → statement M
 good-seconds-spec =

@@ -1,91 +1,91 @@
+-- Each list in turn, and then the seconds; a list that is clear ends within the file.
+use mathlib.Core.Path.{_∙_, sym}
 use borrow.Author.Needs.{needs}
+use lib.Dec.{lit≤}
+use Rattle.fields.proofs.FirstTrouble.{first-met, first-passed, step}
+use Rattle.parts.proofs.Layouts.{row-fits}
+use Rattle.job.specs.Troubles.{partsTrouble}
 use Rattle.job.proofs.runs.parts_trouble.Statement.{statement}
 use Rattle.job.proofs.runs.parts_trouble.Tie as tie
-use Rattle.job.proofs.runs.parts_trouble.Reads as reads
-use Rattle.job.proofs.runs.parts_trouble.Lts as lts
-use Rattle.fields.proofs.trouble.Trouble.unless.Reads as unless-reads
-use Rattle.job.proofs.runs.good_seconds.Reads as good-seconds-reads
-use Rattle.parts.proofs.point.troubles.Reads as point-troubles-reads
-use Rattle.parts.proofs.segment.troubles.Reads as segment-troubles-reads
-use Rattle.parts.proofs.weighing.troubles.Reads as weighing-troubles-reads
 
--- src/runs.rt:44:18
 cast-points : tie.Need-cast-points
 cast-points c = search needs
 
--- src/runs.rt:45:20
 cast-segments : tie.Need-cast-segments
 cast-segments c = search needs
 
--- src/runs.rt:46:21
 cast-weighings : tie.Need-cast-weighings
 cast-weighings c = search needs
 
--- src/runs.rt:47:21
 add-at-points : tie.Need-add-at-points
 add-at-points c = search needs
 
--- src/runs.rt:48:9
 troubles-requires : tie.Need-troubles-requires
 troubles-requires c κs = search needs
 
 enum-told : tie.Need-enum-told
 enum-told c = search needs
 
--- src/runs.rt:50:9
 enum-told-2 : tie.Need-enum-told-2
 enum-told-2 c = search needs
 
--- src/runs.rt:50:9
 returns : tie.Need-returns
-returns c = ?
+unfolding partsTrouble
+returns c = first-met _ (c .before .before .troubles .ensures) (c .enum-told2 .given .1)
 
--- src/runs.rt:52:35
 mul-at-segments : tie.Need-mul-at-segments
 mul-at-segments c = search needs
 
--- src/runs.rt:52:23
 add-at-segments : tie.Need-add-at-segments
 add-at-segments c = search needs
 
--- src/runs.rt:53:9
 troubles-requires-2 : tie.Need-troubles-requires-2
-troubles-requires-2 c κs = ?
+troubles-requires-2 c κs =
+    let points = c .before .before in
+    let start = points .before .before .before .before .before in
+    (row-fits _ _ 12 _ _ (lit≤ tt) (start .pre) (sym (points .troubles .ensures) ∙ c .enum-told .given .1), search needs)
 
 enum-told-3 : tie.Need-enum-told-3
 enum-told-3 c = search needs
 
--- src/runs.rt:55:9
 enum-told-4 : tie.Need-enum-told-4
 enum-told-4 c = search needs
 
--- src/runs.rt:55:9
 returns-2 : tie.Need-returns-2
-returns-2 c = ?
+unfolding partsTrouble
+returns-2 c =
+    let points = c .before .before .before in
+    first-passed (points .before .before .troubles .ensures) (points .enum-told .given .1) (first-met _ (c .before .before .troubles2 .ensures) (c .enum-told4 .given .1))
 
--- src/runs.rt:57:38
 mul-at-weighings : tie.Need-mul-at-weighings
 mul-at-weighings c = search needs
 
--- src/runs.rt:57:24
 add-at-weighings : tie.Need-add-at-weighings
 add-at-weighings c = search needs
 
--- src/runs.rt:58:9
 troubles-requires-3 : tie.Need-troubles-requires-3
-troubles-requires-3 c κs = ?
+troubles-requires-3 c κs =
+    let segments = c .before .before in
+    let points = segments .before .before .before in
+    let start = points .before .before .before .before .before in
+    let low = row-fits _ _ 12 _ _ (lit≤ tt) (start .pre) (sym (points .troubles .ensures) ∙ segments .before .enum-told .given .1) in
+    (row-fits _ _ 4 _ _ (lit≤ tt) low (sym (segments .troubles2 .ensures) ∙ c .enum-told3 .given .1), search needs)
 
--- src/runs.rt:59:14
 good-seconds-requires : tie.Need-good-seconds-requires
 good-seconds-requires c κs = search needs
 
--- src/runs.rt:59:5
 unless-requires : tie.Need-unless-requires
 unless-requires c κs = search needs
 
--- src/runs.rt:40:1
 returns-3 : tie.Need-returns-3
-returns-3 c = ?
+unfolding partsTrouble
+returns-3 c =
+    let weighings = c .before .before in
+    let segments = weighings .before in
+    let points = segments .before .before .before in
+    first-passed (points .before .before .troubles .ensures) (points .enum-told .given .1)
+    (first-passed (segments .before .before .troubles2 .ensures) (segments .enum-told3 .given .1)
+    (step 7 _ (c .unless .ensures) (weighings .troubles3 .ensures) (c .before .good-seconds .ensures)))
 
 pub parts-trouble-spec : {M : Type 1} → statement M
 parts-trouble-spec =

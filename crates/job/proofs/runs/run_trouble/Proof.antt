@@ -1,47 +1,62 @@
+-- The 64 bytes, then the number, then what follows.
+use Prim.Native.Nat.{_≤_, _<_}
+use mathlib.Core.Path.{_∙_, sym, ap, subst}
+use borrow.Author.Tests.{le-ltb, lt-ltb}
 use borrow.Author.Needs.{needs}
+use lib.Dec.{lit≤}
+use Rattle.fields.proofs.FirstTrouble.{first-at, first-clear, first-met, first-passed}
+use Rattle.parts.specs.declared.header.RunHeader.{RunHeader}
+use Rattle.parts.specs.Values.{header}
+use Rattle.parts.proofs.Layouts.{complete-at}
+use Rattle.job.specs.Troubles.{partsTrouble, runTrouble}
 use Rattle.job.proofs.runs.run_trouble.Statement.{statement}
 use Rattle.job.proofs.runs.run_trouble.Tie as tie
-use Rattle.job.proofs.runs.run_trouble.Reads as reads
-use Rattle.job.proofs.runs.run_trouble.Lts as lts
-use Rattle.fields.proofs.numbers.tail.Reads as tail-reads
-use Rattle.job.proofs.runs.parts_trouble.Reads as parts-trouble-reads
-use Rattle.parts.proofs.header.header.Reads as header-reads
-use Rattle.parts.proofs.header.trouble.Reads as trouble-reads
 
--- src/runs.rt:67:9
 trouble-requires : tie.Need-trouble-requires
 trouble-requires c κs = search needs
 
 enum-told : tie.Need-enum-told
 enum-told c = search needs
 
--- src/runs.rt:69:9
 enum-told-2 : tie.Need-enum-told-2
 enum-told-2 c = search needs
 
--- src/runs.rt:69:9
 returns : tie.Need-returns
-returns c = ?
+unfolding runTrouble
+returns c = first-met _ (c .before .before .trouble .ensures) (c .enum-told2 .given .1)
 
--- src/runs.rt:71:28
 tail-requires : tie.Need-tail-requires
 tail-requires c κs = search needs
 
--- src/runs.rt:71:9
 header-requires : tie.Need-header-requires
 header-requires c κs = search needs
 
--- src/runs.rt:73:9
 returns-2 : tie.Need-returns-2
-returns-2 c = ?
+unfolding runTrouble
+returns-2 c =
+    let read = c .before .before in
+    let own = read .before .before in
+    let start = own .before .before .before .before in
+    let h = read .header .ensures ∙ ap header (read .before .tail .ensures) in
+    let low = subst (λ (r : RunHeader). r .number ≤ start .args .lower) h (c .if1 .taken) in
+    first-passed (own .before .before .trouble .ensures) (own .enum-told .given .1) (sym (first-at _ (rw (le-ltb _ _ low))))
 
--- src/runs.rt:76:5
 parts-trouble-requires : tie.Need-parts-trouble-requires
-parts-trouble-requires c κs = ?
+parts-trouble-requires c κs =
+    let own = c .before .before .before .before .before in
+    complete-at _ _ 64 _ (lit≤ tt) (sym (own .before .before .trouble .ensures) ∙ own .enum-told .given .1)
 
--- src/runs.rt:63:1
 returns-3 : tie.Need-returns-3
-returns-3 c = ?
+unfolding runTrouble
+returns-3 c =
+    let above = c .before .before in
+    let read = above .before .before in
+    let own = read .before .before in
+    let start = own .before .before .before .before in
+    let h = read .header .ensures ∙ ap header (read .before .tail .ensures) in
+    let high = subst (λ (r : RunHeader). start .args .lower < r .number) h (above .if1 .left) in
+    first-passed (own .before .before .trouble .ensures) (own .enum-told .given .1)
+    (c .parts-trouble .ensures ∙ ap (λ (r : RunHeader). partsTrouble (start .args .s .now) (start .args .start) (r .counts)) h ∙ sym (first-clear _ (rw (lt-ltb _ _ high))))
 
 pub run-trouble-spec : {M : Type 1} → statement M
 run-trouble-spec =
