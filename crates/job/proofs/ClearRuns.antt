@@ -35,14 +35,14 @@ run-clear s start lower e =
     let after-points = clear-right _ _ parts in
     let after-segments = clear-right _ _ after-points in
     let seconds = judged-clear _ _ _ (clear-right _ _ after-segments) in
-    record
-    { header = clear-left _ _ e
-    ; above = ltb-true _ _ (judged-clear _ _ _ (clear-left _ _ after))
-    ; points = clear-left _ _ parts
-    ; segments = clear-left _ _ after-points
-    ; weighings = clear-left _ _ after-segments
-    ; total = both-left _ _ seconds
-    ; balanced = eqb-true _ _ (both-right (totalSeconds (pointTotal s start (headerAt s start .counts))) _ seconds)
+    record {
+      header = clear-left _ _ e;
+      above = ltb-true _ _ (judged-clear _ _ _ (clear-left _ _ after));
+      points = clear-left _ _ parts;
+      segments = clear-left _ _ after-points;
+      weighings = clear-left _ _ after-segments;
+      total = both-left _ _ seconds;
+      balanced = eqb-true _ _ (both-right (totalSeconds (pointTotal s start (headerAt s start .counts))) _ seconds);
     }
 
 pub run-fits : (s : List ℕ) (start lower : ℕ) → runTrouble s start lower ≡ Clear → nextStart s start ≤ length s

@@ -1,3 +1,4 @@
 -- The laws of a job, which the layers above cite.
 pub mod ClearRuns
 pub mod LookBack
+pub mod WholeFile

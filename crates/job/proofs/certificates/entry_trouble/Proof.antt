@@ -46,10 +46,10 @@ returns c =
     let k = start .args .k in
     let own = read .certificate .ensures ∙ ap certificate (read .before .tail .ensures) in
     let earlier = any-ext _ (λ j. sameCertificate (certificateOf s j) (certificateOf s k)) k
-      (λ j h.
-        ap₂ sameCertificate
-        (ap (λ (all : List Certificate). getD all j noCertificate) (start .pre .1) ∙ pad-at 64 noCertificate (certificateOf s) k j h (le-of-lt (start .pre .0)))
-        own) in
+    (λ j h.
+    ap₂ sameCertificate
+    (ap (λ (all : List Certificate). getD all j noCertificate) (start .pre .1) ∙ pad-at 64 noCertificate (certificateOf s) k j h (le-of-lt (start .pre .0)))
+    own) in
     step 6 (certificatePlace k) (c .unless .ensures) (read .before .before .trouble .ensures) (ap not (c .before .stands .ensures ∙ earlier))
 
 pub entry-trouble-spec : {M : Type 1} → statement M

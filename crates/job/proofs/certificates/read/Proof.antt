@@ -40,9 +40,9 @@ returns : tie.Need-returns Inv-loop μ-loop
 returns c =
     let turn = c .before .before .before in
     let told = c .enum-told2 .given .1 in
-    record
-    { trouble = stops _ _ _ (turn .before .loop .inv .1) (c .before .before .entry-trouble .ensures) told (turn .loop-test .taken)
-    ; all = λ e. clear-not-at e told
+    record {
+      trouble = stops _ _ _ (turn .before .loop .inv .1) (c .before .before .entry-trouble .ensures) told (turn .loop-test .taken);
+      all = λ e. clear-not-at e told;
     }
 
 mul-tail : tie.Need-mul-tail Inv-loop μ-loop
@@ -72,18 +72,18 @@ loop-less c = search needs
 loop-again : tie.Need-loop-again Inv-loop μ-loop
 loop-again c =
     let call = c .before .before .before .before in
-    let turn = call .before .before .loop .inv in
-    ( search needs
-    , goes-on _ _ (turn .1) (call .entry-trouble .ensures) (c .before .before .enum-told .given .1)
-    , pad-more 64 noCertificate _ _ (turn .2) (c .certificate .ensures ∙ ap certificate (c .before .tail .ensures))
+    let turn = call .before .before .loop .inv in (
+      search needs,
+      goes-on _ _ (turn .1) (call .entry-trouble .ensures) (c .before .before .enum-told .given .1),
+      pad-more 64 noCertificate _ _ (turn .2) (c .certificate .ensures ∙ ap certificate (c .before .tail .ensures)),
     )
 
 returns-2 : tie.Need-returns-2 Inv-loop μ-loop
 returns-2 c =
     let turn = c .before .loop .inv in
-    record
-    { trouble = ends _ _ _ (turn .1) (turn .0) (c .loop-test .left)
-    ; all = λ e. turn .2 ∙ ap (padded 64 noCertificate _) (le-antisymm (turn .0) (c .loop-test .left))
+    record {
+      trouble = ends _ _ _ (turn .1) (turn .0) (c .loop-test .left);
+      all = λ e. turn .2 ∙ ap (padded 64 noCertificate _) (le-antisymm (turn .0) (c .loop-test .left));
     }
 
 pub read-spec : {M : Type 1} → statement M

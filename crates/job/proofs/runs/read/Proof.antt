@@ -73,13 +73,13 @@ loop-again c =
     let passed = call .before .before .loop .inv in
     let s = call .before .before .before .before .args .s .now in
     let told = read .before .enum-told .given .1 in
-    let own = call .run-trouble .ensures ∙ ap₂ (runTrouble _) (passed .2) (passed .3) in
-    ( search needs
-    , subst (λ (p : ℕ). p ≤ length s) (sym (c .next-start .ensures)) (run-fits _ _ _ (sym (call .run-trouble .ensures) ∙ told))
-    , c .next-start .ensures ∙ ap (nextStart _) (passed .2) ∙ start-more _ _
-    , c .before .u16-at .ensures ∙ ap (λ (t : List ℕ). u16At t 0) (read .tail .ensures ∙ ap (λ (p : ℕ). drop p s) (passed .2)) ∙ number-more _ _
-    , goes-on _ _ (passed .4) own told
-    , pad-more 16 0 _ _ (passed .5) (passed .2)
+    let own = call .run-trouble .ensures ∙ ap₂ (runTrouble _) (passed .2) (passed .3) in (
+      search needs,
+      subst (λ (p : ℕ). p ≤ length s) (sym (c .next-start .ensures)) (run-fits _ _ _ (sym (call .run-trouble .ensures) ∙ told)),
+      c .next-start .ensures ∙ ap (nextStart _) (passed .2) ∙ start-more _ _,
+      c .before .u16-at .ensures ∙ ap (λ (t : List ℕ). u16At t 0) (read .tail .ensures ∙ ap (λ (p : ℕ). drop p s) (passed .2)) ∙ number-more _ _,
+      goes-on _ _ (passed .4) own told,
+      pad-more 16 0 _ _ (passed .5) (passed .2),
     )
 
 unless-requires : tie.Need-unless-requires Inv-loop μ-loop
@@ -93,9 +93,9 @@ returns-2 c =
     let s = c .before .before .before .before .args .s .now in
     let done = le-antisymm (passed .0) (c .before .loop-test .left) in
     let end = passed .2 ∙ ap (runStart _) done in
-    record
-    { trouble = first-passed (ends _ _ _ (passed .4) (passed .0) (c .before .loop-test .left)) refl (c .unless .ensures ∙ ap (endTrouble s) end)
-    ; starts = λ e. passed .5 ∙ ap (padded 16 0 _) done
+    record {
+      trouble = first-passed (ends _ _ _ (passed .4) (passed .0) (c .before .loop-test .left)) refl (c .unless .ensures ∙ ap (endTrouble s) end);
+      starts = λ e. passed .5 ∙ ap (padded 16 0 _) done;
     }
 
 pub read-spec : {M : Type 1} → statement M
