@@ -38,11 +38,11 @@ unfolding jobTrouble
 job-clear s e =
     let after = clear-right _ _ e in
     let rest = clear-right _ _ after in
-    record
-    { file = clear-left _ _ e
-    ; certificates = clear-left _ _ after
-    ; runs = clear-left _ _ rest
-    ; end = leb-true _ _ (judged-clear _ _ _ (clear-right _ _ rest))
+    record {
+      file = clear-left _ _ e;
+      certificates = clear-left _ _ after;
+      runs = clear-left _ _ rest;
+      end = leb-true _ _ (judged-clear _ _ _ (clear-right _ _ rest));
     }
 
 -- Runs
@@ -103,15 +103,15 @@ none-same s e i j less h =
 
 -- .. that is, no two agree in kind, identity and day
 pub unique :
-  (s : List ℕ)
-  → jobTrouble s ≡ Clear
-  → (i j : ℕ)
-  → i < j
-  → j < certificateCountOf s
-  → certificateOf s i .kind ≡ certificateOf s j .kind
-  → certificateOf s i .identity ≡ certificateOf s j .identity
-  → certificateOf s i .day ≡ certificateOf s j .day
-  → ⊥
+    (s : List ℕ)
+    → jobTrouble s ≡ Clear
+    → (i j : ℕ)
+    → i < j
+    → j < certificateCountOf s
+    → certificateOf s i .kind ≡ certificateOf s j .kind
+    → certificateOf s i .identity ≡ certificateOf s j .identity
+    → certificateOf s i .day ≡ certificateOf s j .day
+    → ⊥
 unique s e i j less h kind identity day =
     let b = certificateOf s j in
     let same = subst (λ (id : Identity). sameIdentity id (b .identity) ≡ true) (sym identity) (same-refl (b .identity)) in

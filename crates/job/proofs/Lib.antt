@@ -1,5 +1,6 @@
 -- The laws of a job, which the layers above cite.
 pub mod ClearJobs
 pub mod ClearRuns
+pub mod Examples
 pub mod LookBack
 pub mod WholeFile
