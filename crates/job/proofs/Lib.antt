@@ -3,4 +3,5 @@ pub mod ClearJobs
 pub mod ClearRuns
 pub mod Examples
 pub mod LookBack
+pub mod Numbers
 pub mod WholeFile
