@@ -1,0 +1,3 @@
+-- The laws of numbers and of trouble, which the layers above cite.
+pub mod PastTheEnd
+pub mod FirstTrouble

@@ -1,0 +1,50 @@
+-- `u16_at` is `u16At`: two bytes, and 0 past the end.
+use mathlib.Core.Path.{ap₂}
+use Prim.Native.Nat.{ℕ, _+_, _*_}
+use Rattle.fields.specs.Numbers.{u16At}
+use Rattle.fields.proofs.PastTheEnd.{u16-past}
+use borrow.Author.Needs.{needs}
+use Rattle.fields.proofs.numbers.u16_at.Statement.{statement}
+use Rattle.fields.proofs.numbers.u16_at.Tie as tie
+
+byte-requires : tie.Need-byte-requires
+byte-requires c κs = search needs
+
+cast-low : tie.Need-cast-low
+cast-low c = search needs
+
+add-byte : tie.Need-add-byte
+add-byte c = search needs
+
+byte-requires-2 : tie.Need-byte-requires-2
+byte-requires-2 c κs = search needs
+
+cast-high : tie.Need-cast-high
+cast-high c = search needs
+
+mul-result : tie.Need-mul-result
+mul-result c = search needs
+
+add-result : tie.Need-add-result
+add-result c = search needs
+
+returns : tie.Need-returns
+unfolding u16At
+returns c = ap₂ (λ (low high : ℕ). low + 256 * high) (c .before .byte .ensures) (c .byte2 .ensures)
+
+returns-2 : tie.Need-returns-2
+returns-2 c = let a = c .before .before .args in u16-past (a .s .now) (a .at) (c .if1 .left)
+
+pub u16-at-spec : {M : Type 1} → statement M
+u16-at-spec =
+    tie.close
+    (tie.spec
+    byte-requires
+    cast-low
+    add-byte
+    byte-requires-2
+    cast-high
+    mul-result
+    add-result
+    returns
+    returns-2)

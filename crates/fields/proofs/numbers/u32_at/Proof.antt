@@ -1,0 +1,50 @@
+-- `u32_at` is `u32At`: two pairs of bytes, and 0 past the end.
+use mathlib.Core.Path.{ap₂}
+use Prim.Native.Nat.{ℕ, _+_, _*_}
+use Rattle.fields.specs.Numbers.{u32At}
+use Rattle.fields.proofs.PastTheEnd.{u32-past}
+use borrow.Author.Needs.{needs}
+use Rattle.fields.proofs.numbers.u32_at.Statement.{statement}
+use Rattle.fields.proofs.numbers.u32_at.Tie as tie
+
+u16-at-requires : tie.Need-u16-at-requires
+u16-at-requires c κs = search needs
+
+cast-low : tie.Need-cast-low
+cast-low c = search needs
+
+add-u16-at : tie.Need-add-u16-at
+add-u16-at c = search needs
+
+u16-at-requires-2 : tie.Need-u16-at-requires-2
+u16-at-requires-2 c κs = search needs
+
+cast-high : tie.Need-cast-high
+cast-high c = search needs
+
+mul-result : tie.Need-mul-result
+mul-result c = search needs
+
+add-result : tie.Need-add-result
+add-result c = search needs
+
+returns : tie.Need-returns
+unfolding u32At
+returns c = ap₂ (λ (low high : ℕ). low + 65536 * high) (c .before .u16-at .ensures) (c .u16-at2 .ensures)
+
+returns-2 : tie.Need-returns-2
+returns-2 c = let a = c .before .before .args in u32-past (a .s .now) (a .at) (c .if1 .left)
+
+pub u32-at-spec : {M : Type 1} → statement M
+u32-at-spec =
+    tie.close
+    (tie.spec
+    u16-at-requires
+    cast-low
+    add-u16-at
+    u16-at-requires-2
+    cast-high
+    mul-result
+    add-result
+    returns
+    returns-2)

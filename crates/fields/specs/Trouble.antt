@@ -1,0 +1,89 @@
+-- The first trouble met: that of a record, row by row, and that of records in a row.
+use Prim.Native.Nat.{ℕ, zero, suc, _+_}
+use mathlib.Core.Bool.{Bool, cond}
+use mathlib.Core.List.{List, [], _∷_}
+use Rattle.fields.specs.declared.trouble.Trouble.{Trouble}
+use Rattle.fields.specs.declared.trouble.Trouble.the-variants.{Clear, At}
+
+-- the earlier of two, unless it is clear
+unfoldable pub first : Trouble → Trouble → Trouble
+first Clear later = later
+first (At number place) later = At number place
+
+-- clear if all is well, else trouble
+abbrev pub judged : Bool → ℕ → ℕ → Trouble
+judged ok number place = cond ok Clear (At number place)
+
+-- the trouble met so far, or else this one, unless all is well
+abbrev pub unless : Trouble → Bool → ℕ → ℕ → Trouble
+unless t ok number place = first t (judged ok number place)
+
+-- The refusal numbers of a file
+
+-- it ends before the header or a record is complete
+abbrev pub incomplete : ℕ
+incomplete = 1
+
+-- wrong mark
+abbrev pub wrongMark : ℕ
+wrongMark = 2
+
+-- wrong version
+abbrev pub wrongVersion : ℕ
+wrongVersion = 3
+
+-- a count out of range
+abbrev pub countRange : ℕ
+countRange = 4
+
+-- another field out of range
+abbrev pub fieldRange : ℕ
+fieldRange = 5
+
+-- a certificate that stands already, or a run number not above the one before
+abbrev pub repeated : ℕ
+repeated = 6
+
+-- a run's seconds too many, or not the same by points and by segments
+abbrev pub wrongSeconds : ℕ
+wrongSeconds = 7
+
+-- bytes left over
+abbrev pub leftOver : ℕ
+leftOver = 8
+
+-- A record
+
+-- a row of a record's table: the refusal, the field's place in the record, whether the field is good
+pub record Row : Type 0 where
+  pub number : ℕ
+  pub place : ℕ
+  pub ok : Bool
+
+abbrev pub count : ℕ → Bool → Row
+count place ok = record { number = countRange; place = place; ok = ok }
+
+abbrev pub field : ℕ → Bool → Row
+field place ok = record { number = fieldRange; place = place; ok = ok }
+
+-- the rows from the first to the last: the trouble met so far, or else that of the first row that is not good
+unfoldable pub checks : Trouble → List Row → Trouble
+checks t [] = t
+checks t (r ∷ rs) = checks (unless t (r .ok) (r .number) (r .place)) rs
+
+-- the place of a trouble, 0 if there is none
+abbrev pub placeOf : Trouble → ℕ
+placeOf Clear = 0
+placeOf (At number place) = place
+
+-- a place in a record, counted from the start of the file
+abbrev pub from : ℕ → Trouble → Trouble
+from start Clear = Clear
+from start (At number place) = At number (start + place)
+
+-- Records in a row
+
+-- the first trouble of f 0, .., f (n - 1)
+unfoldable pub upTo : (ℕ → Trouble) → ℕ → Trouble
+upTo f zero = Clear
+upTo f (suc n) = first (upTo f n) (f n)

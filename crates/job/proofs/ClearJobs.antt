@@ -1,0 +1,118 @@
+-- What a job without trouble is: every run and certificate in range, no certificate twice, run numbers that rise, and no byte after the last run.
+use Prim.Native.Nat.{ℕ, zero, suc, _≤_, _<_}
+use mathlib.Core.Path.{_≡_, refl, sym, _∙_, ap, subst}
+use mathlib.Core.Bool.{Bool, true, false, not, true≢false, _&&_}
+use mathlib.Core.List.{List}
+use mathlib.Core.Logic.{⊎-elim}
+use native.Mathlib.Nat.{lt-trans, lt-suc-self, le-of-suc-le-suc, le-antisymm, eq-or-lt-of-le}
+use native.Mathlib.Omega.{arith}
+use borrow.Author.Tests.{leb-true, eq-eqb, not-true}
+use lib.Dec.{leb}
+use lib.ListN.{length}
+use Rattle.fields.specs.declared.trouble.Trouble.the-variants.{Clear}
+use Rattle.fields.specs.Trouble.{upTo}
+use Rattle.fields.proofs.FirstTrouble.{clear-left, clear-right, judged-clear, each-clear}
+use Rattle.records.specs.declared.Certificate.{Certificate}
+use Rattle.records.specs.declared.Identity.{Identity}
+use Rattle.records.specs.Records.{sameIdentity}
+use Rattle.records.specs.InRange.{RunOk}
+use Rattle.records.proofs.Identities.{same-refl}
+use Rattle.parts.specs.Values.{headerAt, runAt}
+use Rattle.parts.specs.Ranges.{CertificateOk}
+use Rattle.parts.proofs.InRange.{certificate-ok, run-ok}
+use Rattle.job.specs.Places.{certificateCountOf, runCountOf, certificatePlace, certificateOf, runStart, runOf}
+use Rattle.job.specs.Troubles.{fileTrouble, sameCertificate, stands, entryTrouble, certificatesTrouble, numberBefore, runTrouble, runsTrouble, jobTrouble}
+use Rattle.job.proofs.ClearRuns.{RunClear, run-clear, run-fits}
+use Rattle.job.proofs.LookBack.{none-of}
+use Rattle.job.proofs.WholeFile.{certificates-fit}
+
+-- each part of it is clear
+pub record JobClear (s : List ℕ) : Type 0 where
+  pub file : fileTrouble s ≡ Clear
+  pub certificates : certificatesTrouble s ≡ Clear
+  pub runs : runsTrouble s (runCountOf s) ≡ Clear
+  pub end : length s ≤ runStart s (runCountOf s)
+
+pub job-clear : (s : List ℕ) → jobTrouble s ≡ Clear → JobClear s
+unfolding jobTrouble
+job-clear s e =
+    let after = clear-right _ _ e in
+    let rest = clear-right _ _ after in
+    record {
+      file = clear-left _ _ e;
+      certificates = clear-left _ _ after;
+      runs = clear-left _ _ rest;
+      end = leb-true _ _ (judged-clear _ _ _ (clear-right _ _ rest));
+    }
+
+-- Runs
+
+each-run : (s : List ℕ) → jobTrouble s ≡ Clear → (k : ℕ) → k < runCountOf s → RunClear s (runStart s k) (numberBefore s k)
+each-run s e k h = run-clear s (runStart s k) (numberBefore s k) (each-clear _ _ (job-clear s e .runs) k h)
+
+-- every run is in range
+pub clear-run : (s : List ℕ) → jobTrouble s ≡ Clear → (k : ℕ) → k < runCountOf s → RunOk (runOf s k)
+clear-run s e k h =
+    let r = each-run s e k h in
+    run-ok s (runStart s k) (r .header) (r .points) (r .segments) (r .weighings) (r .total) (r .balanced)
+
+number-of : (s : List ℕ) (k : ℕ) → runOf s k .number ≡ headerAt s (runStart s k) .number
+unfolding runAt
+number-of s k = refl
+
+-- a run's number is above that of the run before
+next-above : (s : List ℕ) → jobTrouble s ≡ Clear → (k : ℕ) → suc k < runCountOf s → runOf s k .number < runOf s (suc k) .number
+unfolding numberBefore
+next-above s e k h = rw (number-of s k, number-of s (suc k)) (each-run s e (suc k) h .above)
+
+-- and above that of every earlier run, so that a number names at most one run
+pub rising : (s : List ℕ) → jobTrouble s ≡ Clear → (i j : ℕ) → i < j → j < runCountOf s → runOf s i .number < runOf s j .number
+rising s e i zero less h = absurd (omega arith)
+rising s e i (suc j) less h =
+    ⊎-elim
+    (λ same. subst (λ (k : ℕ). runOf s k .number < runOf s (suc j) .number) (sym same) (next-above s e j h))
+    (λ before. lt-trans (rising s e i j before (lt-trans (lt-suc-self j) h)) (next-above s e j h))
+    (eq-or-lt-of-le (le-of-suc-le-suc less))
+
+-- the runs end within the file ..
+runs-fit : (s : List ℕ) → fileTrouble s ≡ Clear → certificatesTrouble s ≡ Clear → (n : ℕ) → runsTrouble s n ≡ Clear → runStart s n ≤ length s
+unfolding runStart
+runs-fit s e f zero g = certificates-fit s _ e f
+runs-fit s e f (suc n) g = run-fits s (runStart s n) (numberBefore s n) (each-clear _ (suc n) g n (lt-suc-self n))
+
+-- .. and the last of them ends it
+pub job-end : (s : List ℕ) → jobTrouble s ≡ Clear → runStart s (runCountOf s) ≡ length s
+job-end s e =
+    let j = job-clear s e in
+    le-antisymm (runs-fit s (j .file) (j .certificates) (runCountOf s) (j .runs)) (j .end)
+
+-- Certificates
+
+each-entry : (s : List ℕ) → jobTrouble s ≡ Clear → (k : ℕ) → k < certificateCountOf s → entryTrouble s k ≡ Clear
+each-entry s e k h = each-clear (entryTrouble s) _ (job-clear s e .certificates) k h
+
+-- every certificate is in range
+pub clear-certificate : (s : List ℕ) → jobTrouble s ≡ Clear → (k : ℕ) → k < certificateCountOf s → CertificateOk (certificateOf s k)
+clear-certificate s e k h = certificate-ok s (certificatePlace k) (clear-left _ _ (each-entry s e k h))
+
+-- no two certificates are the same ..
+pub none-same : (s : List ℕ) → jobTrouble s ≡ Clear → (i j : ℕ) → i < j → j < certificateCountOf s → sameCertificate (certificateOf s i) (certificateOf s j) ≡ false
+none-same s e i j less h =
+    let alone : stands s j ≡ false = not-true (stands s j) (judged-clear _ _ _ (clear-right _ _ (each-entry s e j h))) in
+    none-of _ j alone i less
+
+-- .. that is, no two agree in kind, identity and day
+pub unique :
+    (s : List ℕ)
+    → jobTrouble s ≡ Clear
+    → (i j : ℕ)
+    → i < j
+    → j < certificateCountOf s
+    → certificateOf s i .kind ≡ certificateOf s j .kind
+    → certificateOf s i .identity ≡ certificateOf s j .identity
+    → certificateOf s i .day ≡ certificateOf s j .day
+    → ⊥
+unique s e i j less h kind identity day =
+    let b = certificateOf s j in
+    let same = subst (λ (id : Identity). sameIdentity id (b .identity) ≡ true) (sym identity) (same-refl (b .identity)) in
+    true≢false (sym (rw (eq-eqb _ _ kind, same, eq-eqb _ _ day)) ∙ none-same s e i j less h)

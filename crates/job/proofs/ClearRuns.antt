@@ -1,0 +1,68 @@
+-- What a run without trouble says, and that it ends within the file.
+use Prim.Native.Nat.{ℕ, suc, _+_, _≤_, _<_}
+use mathlib.Core.Path.{_≡_, refl}
+use mathlib.Core.Bool.{Bool, true, false, false≢true, _&&_}
+use mathlib.Core.List.{List}
+use native.Mathlib.Numerals.{add-one}
+use borrow.Author.Tests.{ltb-true, eqb-true}
+use lib.Dec.{ltb, lit≤}
+use lib.ListN.{length}
+use Rattle.fields.specs.declared.trouble.Trouble.the-variants.{Clear}
+use Rattle.fields.specs.Trouble.{judged}
+use Rattle.fields.proofs.FirstTrouble.{clear-left, clear-right, judged-clear}
+use Rattle.readings.specs.Ranges.{totalSeconds}
+use Rattle.records.proofs.Identities.{both-left, both-right}
+use Rattle.parts.specs.Values.{headerAt, pointPlace, segmentPlace, pointTotal, segmentTotal}
+use Rattle.parts.specs.Rows.{headerTrouble, pointsTrouble, segmentsTrouble, weighingsTrouble}
+use Rattle.parts.proofs.Layouts.{complete-at, row-fits}
+use Rattle.job.specs.Places.{nextStart, runStart}
+use Rattle.job.specs.Troubles.{partsTrouble, runTrouble, numberBefore}
+
+pub record RunClear (s : List ℕ) (start lower : ℕ) : Type 0 where
+  pub header : headerTrouble s start ≡ Clear
+  pub above : lower < headerAt s start .number
+  pub points : pointsTrouble s (start + 64) (headerAt s start .counts .points) ≡ Clear
+  pub segments : segmentsTrouble s (pointPlace start (headerAt s start .counts .points)) (headerAt s start .counts .segments) ≡ Clear
+  pub weighings : weighingsTrouble s (segmentPlace start (headerAt s start .counts) (headerAt s start .counts .segments)) (headerAt s start .counts .weighings) ≡ Clear
+  pub total : totalSeconds (pointTotal s start (headerAt s start .counts)) ≡ true
+  pub balanced : segmentTotal s start (headerAt s start .counts) ≡ pointTotal s start (headerAt s start .counts)
+
+pub run-clear : (s : List ℕ) (start lower : ℕ) → runTrouble s start lower ≡ Clear → RunClear s start lower
+unfolding runTrouble partsTrouble
+run-clear s start lower e =
+    let after = clear-right _ _ e in
+    let parts = clear-right _ _ after in
+    let after-points = clear-right _ _ parts in
+    let after-segments = clear-right _ _ after-points in
+    let seconds = judged-clear _ _ _ (clear-right _ _ after-segments) in
+    record {
+      header = clear-left _ _ e;
+      above = ltb-true _ _ (judged-clear _ _ _ (clear-left _ _ after));
+      points = clear-left _ _ parts;
+      segments = clear-left _ _ after-points;
+      weighings = clear-left _ _ after-segments;
+      total = both-left _ _ seconds;
+      balanced = eqb-true _ _ (both-right (totalSeconds (pointTotal s start (headerAt s start .counts))) _ seconds);
+    }
+
+pub run-fits : (s : List ℕ) (start lower : ℕ) → runTrouble s start lower ≡ Clear → nextStart s start ≤ length s
+run-fits s start lower e =
+    let r = run-clear s start lower e in
+    row-fits s _ 14 _ _ (lit≤ tt)
+    (row-fits s _ 4 _ _ (lit≤ tt)
+    (row-fits s _ 12 _ _ (lit≤ tt) (complete-at s start 64 _ (lit≤ tt) (r .header)) (r .points))
+    (r .segments))
+    (r .weighings)
+
+-- the run after another
+pub start-more : (s : List ℕ) (k : ℕ) → nextStart s (runStart s k) ≡ runStart s (k + 1)
+unfolding runStart
+start-more s k = rw add-one
+
+pub number-more : (s : List ℕ) (k : ℕ) → headerAt s (runStart s k) .number ≡ numberBefore s (k + 1)
+unfolding numberBefore
+number-more s k = rw add-one
+
+pub number-none : (s : List ℕ) → 0 ≡ numberBefore s 0
+unfolding numberBefore
+number-none s = refl

@@ -1,0 +1,7 @@
+-- The laws of a job, which the layers above cite.
+pub mod ClearJobs
+pub mod ClearRuns
+pub mod Examples
+pub mod LookBack
+pub mod Numbers
+pub mod WholeFile

@@ -1,0 +1,25 @@
+-- Each early answer is the first comparison that fails.
+use borrow.Author.Tests.{eq-eqb, ne-eqb, not-true, not-false}
+use borrow.Author.Needs.{needs}
+use Rattle.job.proofs.certificates.same.Statement.{statement}
+use Rattle.job.proofs.certificates.same.Tie as tie
+
+returns : tie.Need-returns
+returns c = rw (ne-eqb _ _ (c .if1 .taken))
+
+same-requires : tie.Need-same-requires
+same-requires c κs = search needs
+
+returns-2 : tie.Need-returns-2
+returns-2 c =
+    let call = c .before in
+    rw (eq-eqb _ _ (call .before .before .before .if1 .left), ← call .same .ensures, not-true (call .same .result) (c .if2 .taken))
+
+returns-3 : tie.Need-returns-3
+returns-3 c =
+    let identity = c .before .before in
+    let call = identity .before in
+    rw (eq-eqb _ _ (call .before .before .before .if1 .left), ← call .same .ensures, not-false (call .same .result) (identity .if2 .left))
+
+pub same-spec : {M : Type 1} → statement M
+same-spec = tie.close (tie.spec returns same-requires returns-2 returns-3)

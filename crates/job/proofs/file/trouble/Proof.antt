@@ -1,0 +1,75 @@
+-- Incomplete, or row by row.
+use Prim.Native.Nat.{ℕ}
+use mathlib.Core.Path.{refl, ap, _∙_}
+use borrow.Author.Needs.{needs}
+use lib.Dec.{eqb}
+use Rattle.fields.specs.Trouble.{checks}
+use Rattle.fields.proofs.FirstTrouble.{step, from-zero}
+use Rattle.readings.specs.Ranges.{certificateCount, runCount}
+use Rattle.parts.proofs.Layouts.{short-at, whole-at}
+use Rattle.job.proofs.file.trouble.Statement.{statement}
+use Rattle.job.proofs.file.trouble.Tie as tie
+
+returns : tie.Need-returns
+returns c = short-at (c .before .before .args .s .now) 0 9 _ refl (c .if1 .taken)
+
+marked-requires : tie.Need-marked-requires
+marked-requires c κs = search needs
+
+unless-requires : tie.Need-unless-requires
+unless-requires c κs = search needs
+
+u16-at-requires : tie.Need-u16-at-requires
+u16-at-requires c κs = search needs
+
+unless-requires-2 : tie.Need-unless-requires-2
+unless-requires-2 c κs = search needs
+
+u16-at-requires-2 : tie.Need-u16-at-requires-2
+u16-at-requires-2 c κs = search needs
+
+check-requires : tie.Need-check-requires
+check-requires c κs = search needs
+
+unless-requires-3 : tie.Need-unless-requires-3
+unless-requires-3 c κs = search needs
+
+u16-at-requires-3 : tie.Need-u16-at-requires-3
+u16-at-requires-3 c κs = search needs
+
+check-requires-2 : tie.Need-check-requires-2
+check-requires-2 c κs = search needs
+
+unless-requires-4 : tie.Need-unless-requires-4
+unless-requires-4 c κs = search needs
+
+returns-2 : tie.Need-returns-2
+unfolding checks
+returns-2 c =
+    let runs = c in
+    let certificates = runs .before .before .before in
+    let version = certificates .before .before .before in
+    let mark = version .before .before in
+    let whole = mark .before .before in
+    let row0 = step 2 0 (mark .unless .ensures) refl (mark .before .marked .ensures) in
+    let row3 = step 3 3 (version .unless2 .ensures) row0 (ap (λ (v : ℕ). eqb v 1) (version .before .u16-at .ensures)) in
+    let row5 = step 4 5 (certificates .unless3 .ensures) row3 (certificates .before .check .ensures ∙ ap certificateCount (certificates .before .before .u16-at2 .ensures)) in
+    let row7 = step 4 7 (runs .unless4 .ensures) row5 (runs .before .check2 .ensures ∙ ap runCount (runs .before .before .u16-at3 .ensures)) in
+    whole-at (whole .before .before .args .s .now) 0 9 _ refl (whole .if1 .left) row7 (from-zero _)
+
+pub trouble-spec : {M : Type 1} → statement M
+trouble-spec =
+    tie.close
+    (tie.spec
+    returns
+    marked-requires
+    unless-requires
+    u16-at-requires
+    unless-requires-2
+    u16-at-requires-2
+    check-requires
+    unless-requires-3
+    u16-at-requires-3
+    check-requires-2
+    unless-requires-4
+    returns-2)

@@ -1,0 +1,90 @@
+-- Both sums are those of the file, and each early answer is the first test that fails.
+use Prim.Native.Nat.{ℕ, _+_, _*_}
+use mathlib.Core.Path.{_≡_, sym, _∙_, ap, ap₂}
+use mathlib.Core.Bool.{Bool, true, false, _&&_}
+use mathlib.Core.List.{List}
+use borrow.Author.Tests.{not-true, not-false}
+use borrow.Author.Needs.{needs}
+use lib.Dec.{eqb}
+use Rattle.readings.specs.Ranges.{totalSeconds}
+use Rattle.parts.specs.Values.{point, segment}
+use Rattle.parts.proofs.Places.{summed}
+use Rattle.job.proofs.runs.good_seconds.Statement.{statement}
+use Rattle.job.proofs.runs.good_seconds.Tie as tie
+
+-- the first test r fails: so do both
+fails : {r a : Bool} → r ≡ a → r ≡ false → (b : Bool) → false ≡ (a && b)
+fails e f b = rw (sym e ∙ f)
+
+-- it holds: the second decides
+passes : {r a x b : Bool} → r ≡ a → r ≡ true → x ≡ b → x ≡ (a && b)
+passes e f g = rw (sym e ∙ f) g
+
+cast-points : tie.Need-cast-points
+cast-points c = search needs
+
+cast-segments : tie.Need-cast-segments
+cast-segments c = search needs
+
+add-at : tie.Need-add-at
+add-at c = search needs
+
+tail-requires : tie.Need-tail-requires
+tail-requires c κs = search needs
+
+seconds-requires : tie.Need-seconds-requires
+seconds-requires c κs = search needs
+
+mul-tail : tie.Need-mul-tail
+mul-tail c = search needs
+
+add-tail : tie.Need-add-tail
+add-tail c = search needs
+
+tail-requires-2 : tie.Need-tail-requires-2
+tail-requires-2 c κs = search needs
+
+seconds-requires-2 : tie.Need-seconds-requires-2
+seconds-requires-2 c κs = search needs
+
+check-requires : tie.Need-check-requires
+check-requires c κs = search needs
+
+returns : tie.Need-returns
+returns c =
+    let check = c .before .check in
+    let points = c .before .before .before .before in
+    let start = points .before .before .before .before .before in
+    let at = start .args .start + 64 in
+    let by-points = summed (λ (t : List ℕ). point t .seconds) 12 (start .args .s .now) at (start .args .n .points) (points .seconds .ensures) (points .before .tail .ensures) in
+    fails (check .ensures ∙ ap totalSeconds by-points) (not-true (check .result) (c .if1 .taken)) _
+
+returns-2 : tie.Need-returns-2
+returns-2 c =
+    let check = c .before .check in
+    let segments = c .before .before in
+    let points = segments .before .before in
+    let start = points .before .before .before .before .before in
+    let s = start .args .s .now in
+    let n = start .args .n in
+    let at = start .args .start + 64 in
+    let by-points = summed (λ (t : List ℕ). point t .seconds) 12 s at (n .points) (points .seconds .ensures) (points .before .tail .ensures) in
+    let by-segments = summed (λ (t : List ℕ). segment t .seconds) 4 s (at + 12 * n .points) (n .segments) (segments .seconds2 .ensures) (segments .before .tail2 .ensures) in
+    passes (check .ensures ∙ ap totalSeconds by-points) (not-false (check .result) (c .if1 .left)) (ap₂ eqb by-segments by-points)
+
+pub good-seconds-spec : {M : Type 1} → statement M
+good-seconds-spec =
+    tie.close
+    (tie.spec
+    cast-points
+    cast-segments
+    add-at
+    tail-requires
+    seconds-requires
+    mul-tail
+    add-tail
+    tail-requires-2
+    seconds-requires-2
+    check-requires
+    returns
+    returns-2)

@@ -1,0 +1,121 @@
+-- The loop keeps where it stands, the number before, and that the runs passed are clear and noted; it stops at the first that is not.
+use Prim.Native.Nat.{ℕ, _-_, _≤_}
+use mathlib.Core.Path.{_≡_, refl, sym, _∙_, ap, ap₂, subst}
+use mathlib.Core.List.{List}
+use native.Mathlib.Nat.{le-antisymm}
+use borrow.Author.Needs.{needs}
+use lib.ListN.{length, drop}
+use Rattle.fields.specs.declared.trouble.Trouble.the-variants.{Clear}
+use Rattle.fields.specs.Numbers.{u16At}
+use Rattle.fields.specs.Trouble.{first}
+use Rattle.fields.proofs.FirstTrouble.{clear-not-at, first-met, first-passed, none-clear, goes-on, stops, ends}
+use Rattle.parts.specs.Arrays.{padded}
+use Rattle.parts.proofs.Arrays.{pad-none, pad-more}
+use Rattle.job.specs.Places.{nextStart, runStart}
+use Rattle.job.specs.Troubles.{runTrouble, numberBefore, runsTrouble, endTrouble}
+use Rattle.job.proofs.ClearRuns.{run-fits, start-more, number-none, number-more}
+use Rattle.job.proofs.runs.read.Statement.{statement}
+use Rattle.job.proofs.runs.read.Tie as tie
+
+abbrev Inv-loop : tie.InvT-loop
+Inv-loop s first n starts₀ at₀ lower₀ k₀ starts at lower k = (k ≤ n) × (at ≤ length s) × (at ≡ runStart s k) × (lower ≡ numberBefore s k) × (runsTrouble s k ≡ Clear) × (starts ≡ padded 16 0 (runStart s) k)
+
+abbrev μ-loop : tie.MeasureT-loop
+μ-loop s first n starts₀ at₀ lower₀ k₀ starts at lower k = n - k
+
+loop-holds : tie.Need-loop-holds Inv-loop μ-loop
+loop-holds c =
+    let first = c .before .pre in
+    (search needs, first .2, first .1, number-none _, none-clear _, pad-none 16 0 _)
+
+run-trouble-requires : tie.Need-run-trouble-requires Inv-loop μ-loop
+run-trouble-requires c κs = search needs
+
+enum-told : tie.Need-enum-told Inv-loop μ-loop
+enum-told c = search needs
+
+enum-told-2 : tie.Need-enum-told-2 Inv-loop μ-loop
+enum-told-2 c = search needs
+
+returns : tie.Need-returns Inv-loop μ-loop
+returns c =
+    let turn = c .before .before .before in
+    let passed = turn .before .loop .inv in
+    let told = c .enum-told2 .given .1 in
+    let own = c .before .before .run-trouble .ensures ∙ ap₂ (runTrouble _) (passed .2) (passed .3) in
+    record { trouble = first-met _ (stops _ _ _ (passed .4) own told (turn .loop-test .taken)) told; starts = λ e. clear-not-at e told }
+
+mul-starts : tie.Need-mul-starts Inv-loop μ-loop
+mul-starts c = search needs
+
+array-write-starts : tie.Need-array-write-starts Inv-loop μ-loop
+array-write-starts c = search needs
+
+tail-requires : tie.Need-tail-requires Inv-loop μ-loop
+tail-requires c κs = search needs
+
+u16-at-requires : tie.Need-u16-at-requires Inv-loop μ-loop
+u16-at-requires c κs = search needs
+
+next-start-requires : tie.Need-next-start-requires Inv-loop μ-loop
+next-start-requires c κs = search needs
+
+add-k : tie.Need-add-k Inv-loop μ-loop
+add-k c = search needs
+
+loop-less : tie.Need-loop-less Inv-loop μ-loop
+loop-less c = search needs
+
+loop-again : tie.Need-loop-again Inv-loop μ-loop
+loop-again c =
+    let read = c .before .before in
+    let call = read .before .before .before in
+    let passed = call .before .before .loop .inv in
+    let s = call .before .before .before .before .args .s .now in
+    let told = read .before .enum-told .given .1 in
+    let own = call .run-trouble .ensures ∙ ap₂ (runTrouble _) (passed .2) (passed .3) in (
+      search needs,
+      subst (λ (p : ℕ). p ≤ length s) (sym (c .next-start .ensures)) (run-fits _ _ _ (sym (call .run-trouble .ensures) ∙ told)),
+      c .next-start .ensures ∙ ap (nextStart _) (passed .2) ∙ start-more _ _,
+      c .before .u16-at .ensures ∙ ap (λ (t : List ℕ). u16At t 0) (read .tail .ensures ∙ ap (λ (p : ℕ). drop p s) (passed .2)) ∙ number-more _ _,
+      goes-on _ _ (passed .4) own told,
+      pad-more 16 0 _ _ (passed .5) (passed .2),
+    )
+
+unless-requires : tie.Need-unless-requires Inv-loop μ-loop
+unless-requires c κs = search needs
+
+returns-2 : tie.Need-returns-2 Inv-loop μ-loop
+unfolding first
+returns-2 c =
+    let turn = c .before .before .loop in
+    let passed = turn .inv in
+    let s = c .before .before .before .before .args .s .now in
+    let done = le-antisymm (passed .0) (c .before .loop-test .left) in
+    let end = passed .2 ∙ ap (runStart _) done in
+    record {
+      trouble = first-passed (ends _ _ _ (passed .4) (passed .0) (c .before .loop-test .left)) refl (c .unless .ensures ∙ ap (endTrouble s) end);
+      starts = λ e. passed .5 ∙ ap (padded 16 0 _) done;
+    }
+
+pub read-spec : {M : Type 1} → statement M
+read-spec =
+    tie.close
+    (tie.spec
+    Inv-loop
+    μ-loop
+    loop-holds
+    run-trouble-requires
+    enum-told
+    enum-told-2
+    returns
+    mul-starts
+    array-write-starts
+    tail-requires
+    u16-at-requires
+    next-start-requires
+    add-k
+    loop-less
+    loop-again
+    unless-requires
+    returns-2)

@@ -1,0 +1,33 @@
+-- Where the certificates and the runs of a job stand: a header of 9 bytes, the certificates, the runs, one after the other.
+use Prim.Native.Nat.{ℕ, zero, suc, _+_, _*_}
+use mathlib.Core.List.{List}
+use Rattle.fields.specs.Numbers.{u16At}
+use Rattle.records.specs.declared.Certificate.{Certificate}
+use Rattle.records.specs.declared.Run.{Run}
+use Rattle.parts.specs.Values.{certificateAt, headerAt, runAt, runEnd}
+
+-- how many certificates and how many runs the header announces
+abbrev pub certificateCountOf : List ℕ → ℕ
+certificateCountOf s = u16At s 5
+
+abbrev pub runCountOf : List ℕ → ℕ
+runCountOf s = u16At s 7
+
+-- certificates by index from 0
+abbrev pub certificatePlace : ℕ → ℕ
+certificatePlace k = 9 + 16 * k
+
+abbrev pub certificateOf : List ℕ → ℕ → Certificate
+certificateOf s k = certificateAt s (certificatePlace k)
+
+-- the place after the run that starts at a place
+abbrev pub nextStart : List ℕ → ℕ → ℕ
+nextStart s start = runEnd start (headerAt s start .counts)
+
+-- runs by index from 0: the first stands after the last certificate
+unfoldable pub runStart : List ℕ → ℕ → ℕ
+runStart s zero = certificatePlace (certificateCountOf s)
+runStart s (suc k) = nextStart s (runStart s k)
+
+abbrev pub runOf : List ℕ → ℕ → Run
+runOf s k = runAt s (runStart s k)

@@ -1,0 +1,96 @@
+-- The first trouble of a job: header, certificates, runs, bytes left over.
+use Prim.Native.Nat.{ℕ, zero, suc, _+_}
+use mathlib.Core.Bool.{Bool, true, false, not, _&&_, _||_}
+use mathlib.Core.List.{List, [], _∷_}
+use lib.Dec.{leb, ltb, eqb}
+use lib.ListN.{length}
+use Rattle.fields.specs.declared.trouble.Trouble.{Trouble}
+use Rattle.fields.specs.Numbers.{byteAt, u16At}
+use Rattle.fields.specs.Trouble.{first, judged, wrongMark, wrongVersion, repeated, wrongSeconds, leftOver, Row, count, upTo}
+use Rattle.readings.specs.Ranges.{certificateCount, runCount, totalSeconds}
+use Rattle.records.specs.declared.Certificate.{Certificate}
+use Rattle.records.specs.declared.Counts.{Counts}
+use Rattle.records.specs.Records.{sameIdentity}
+use Rattle.parts.specs.Values.{headerAt, pointPlace, segmentPlace, pointTotal, segmentTotal}
+use Rattle.parts.specs.Rows.{recordTrouble, certificateTrouble, headerTrouble, pointsTrouble, segmentsTrouble, weighingsTrouble}
+use Rattle.job.specs.Places.{certificateCountOf, runCountOf, certificatePlace, certificateOf, runStart}
+
+-- The header
+
+-- "SRJ"
+abbrev pub marked : List ℕ → Bool
+marked s = eqb (byteAt s 0) 83 && (eqb (byteAt s 1) 82 && eqb (byteAt s 2) 74)
+
+-- Header, 9 bytes
+abbrev pub fileRows : List ℕ → List Row
+fileRows s =
+    record { number = wrongMark; place = 0; ok = marked s }
+    ∷ record { number = wrongVersion; place = 3; ok = eqb (u16At s 3) 1 }
+    ∷ count 5 (certificateCount (certificateCountOf s))
+    ∷ count 7 (runCount (runCountOf s))
+    ∷ []
+
+abbrev pub fileTrouble : List ℕ → Trouble
+fileTrouble s = recordTrouble s 0 9 (fileRows s)
+
+-- Certificates
+
+-- the same kind, maker, serial and day
+abbrev pub sameCertificate : Certificate → Certificate → Bool
+sameCertificate a b = eqb (a .kind) (b .kind) && (sameIdentity (a .identity) (b .identity) && eqb (a .day) (b .day))
+
+-- f 0 or .. or f (n - 1)
+unfoldable pub anyTo : (ℕ → Bool) → ℕ → Bool
+anyTo f zero = false
+anyTo f (suc n) = anyTo f n || f n
+
+-- an earlier certificate is the same
+abbrev pub stands : List ℕ → ℕ → Bool
+stands s k = anyTo (λ j. sameCertificate (certificateOf s j) (certificateOf s k)) k
+
+-- a certificate's fields, and then that it does not repeat an earlier one
+abbrev pub entryTrouble : List ℕ → ℕ → Trouble
+entryTrouble s k = first (certificateTrouble s (certificatePlace k)) (judged (not (stands s k)) repeated (certificatePlace k))
+
+abbrev pub certificatesTrouble : List ℕ → Trouble
+certificatesTrouble s = upTo (entryTrouble s) (certificateCountOf s)
+
+-- Runs
+
+-- not too many, and as many by segments as by points
+abbrev pub goodSeconds : List ℕ → ℕ → Counts → Bool
+goodSeconds s start n = totalSeconds (pointTotal s start n) && eqb (segmentTotal s start n) (pointTotal s start n)
+
+-- what follows a run's 64 bytes: points, segments, weighings, and then the seconds
+unfoldable pub partsTrouble : List ℕ → ℕ → Counts → Trouble
+partsTrouble s start n =
+    first (pointsTrouble s (start + 64) (n .points))
+    (first (segmentsTrouble s (pointPlace start (n .points)) (n .segments))
+    (first (weighingsTrouble s (segmentPlace start n (n .segments)) (n .weighings))
+    (judged (goodSeconds s start n) wrongSeconds start)))
+
+-- a run whose number has to be above `lower`
+unfoldable pub runTrouble : List ℕ → ℕ → ℕ → Trouble
+runTrouble s start lower =
+    first (headerTrouble s start)
+    (first (judged (ltb lower (headerAt s start .number)) repeated start) (partsTrouble s start (headerAt s start .counts)))
+
+-- the number of the run before, 0 for the first run
+unfoldable pub numberBefore : List ℕ → ℕ → ℕ
+numberBefore s zero = 0
+numberBefore s (suc k) = headerAt s (runStart s k) .number
+
+abbrev pub runsTrouble : List ℕ → ℕ → Trouble
+runsTrouble s n = upTo (λ k. runTrouble s (runStart s k) (numberBefore s k)) n
+
+-- The whole file
+
+-- bytes stand after the last run
+abbrev pub endTrouble : List ℕ → ℕ → Trouble
+endTrouble s end = judged (leb (length s) end) leftOver end
+
+unfoldable pub jobTrouble : List ℕ → Trouble
+jobTrouble s =
+    first (fileTrouble s)
+    (first (certificatesTrouble s)
+    (first (runsTrouble s (runCountOf s)) (endTrouble s (runStart s (runCountOf s)))))

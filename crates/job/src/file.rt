@@ -1,0 +1,42 @@
+// The header of a job file, 9 bytes: mark, version, and how many certificates and runs follow.
+
+use fields::numbers;
+use fields::trouble::Trouble;
+use readings::headers::CertificateCount;
+use readings::headers::RunCount;
+ghost use mathlib.Core.Path.{_≡_};
+ghost use Rattle.job.specs.Troubles.{marked, fileTrouble};
+
+pub const SIZE: usize = 9;
+
+pub const VERSION: u16 = 1;
+
+// Whether the file begins with "SRJ".
+fn marked(s: &[u8]) -> bool
+    ensures { λ r. ⌜ r ≡ marked (now (s .entry)) ⌝ }
+{
+    if numbers::byte(s, 0) != 83 {
+        return false;
+    }
+    if numbers::byte(s, 1) != 82 {
+        return false;
+    }
+    numbers::byte(s, 2) == 74
+}
+
+pub fn trouble(s: &[u8]) -> Trouble
+    ensures { λ r. ⌜ r ≡ fileTrouble (now (s .entry)) ⌝ }
+{
+    if s.len() < SIZE {
+        return Trouble::At(Trouble::INCOMPLETE, s.len());
+    }
+    let t = Trouble::Clear;
+    let t = t.unless(marked(s), Trouble::MARK, 0);
+    let t = t.unless(numbers::u16_at(s, 3) == VERSION, Trouble::VERSION, 3);
+    let t = t.unless(
+        CertificateCount::check(numbers::u16_at(s, 5)),
+        Trouble::COUNT,
+        5,
+    );
+    t.unless(RunCount::check(numbers::u16_at(s, 7)), Trouble::COUNT, 7)
+}

@@ -1,0 +1,66 @@
+// The walk over a whole job file, from the front to the first trouble met or to the end.
+// Holds no heap: a job is its certificates by value and the place of each run. Relies on the records of parts.
+
+mod certificates;
+mod file;
+mod runs;
+
+use fields::numbers;
+use fields::trouble::Trouble;
+use parts::certificate;
+use records::Certificate;
+ghost use mathlib.Core.Path.{_≡_};
+ghost use Rattle.job.specs.Reading.{refused, readJob};
+
+// What a file holds. A job in trouble holds nothing: no certificates, no runs, and zeros in both arrays.
+pub struct Job {
+    pub trouble: Trouble,
+    pub certificates: usize,
+    pub runs: usize,
+    pub held: [Certificate; 64],
+    pub starts: [usize; 16],
+}
+
+fn refused(t: Trouble) -> Job
+    ensures { λ r. ⌜ r ≡ refused t ⌝ }
+{
+    Job {
+        trouble: t,
+        certificates: 0,
+        runs: 0,
+        held: certificates::none(),
+        starts: [0usize; 16],
+    }
+}
+
+// The job in a file, or the first trouble met in it.
+pub fn read(s: &[u8]) -> Job
+    ensures { λ r. ⌜ r ≡ readJob (now (s .entry)) ⌝ }
+{
+    let t = file::trouble(s);
+    let Trouble::Clear = t else {
+        return refused(t);
+    };
+    let certificates = numbers::u16_at(s, 5) as usize;
+    let runs = numbers::u16_at(s, 7) as usize;
+    let c = certificates::read(s, certificates);
+    let t = c.trouble;
+    let Trouble::Clear = t else {
+        return refused(t);
+    };
+    let first = file::SIZE + certificate::SIZE * certificates;
+    let w = runs::read(s, first, runs);
+    let t = w.trouble;
+    let Trouble::Clear = t else {
+        return refused(t);
+    };
+    let held = c.all;
+    let starts = w.starts;
+    Job {
+        trouble: Trouble::Clear,
+        certificates,
+        runs,
+        held,
+        starts,
+    }
+}

@@ -1,0 +1,114 @@
+// The runs of a job: each in itself, their numbers rising, and nothing after the last.
+
+use fields::numbers;
+use fields::trouble::Trouble;
+use parts::header;
+use parts::point;
+use parts::segment;
+use parts::weighing;
+use readings::points::TotalSeconds;
+use records::Counts;
+ghost use mathlib.Core.Path.{_≡_};
+ghost use Prim.Native.Nat.{_+_, _≤_};
+ghost use lib.ListN.{length};
+ghost use Rattle.job.specs.Places.{nextStart, runStart};
+ghost use Rattle.job.specs.Troubles.{goodSeconds, partsTrouble, runTrouble};
+ghost use Rattle.job.specs.Walks.{WalkIs};
+
+// Where each run starts: complete only where there is no trouble.
+pub struct Walk {
+    pub trouble: Trouble,
+    pub starts: [usize; 16],
+}
+
+fn good_seconds(s: &[u8], start: usize, n: Counts) -> bool
+    requires { ⌜ start ≤ length (now s) ⌝ }
+    ensures { λ r. ⌜ r ≡ goodSeconds (now (s .entry)) start n ⌝ }
+{
+    let points = n.points as usize;
+    let segments = n.segments as usize;
+    let at = start + header::SIZE;
+    let by_points = point::seconds(numbers::tail(s, at), points);
+    let by_segments = segment::seconds(numbers::tail(s, at + point::SIZE * points), segments);
+    if !TotalSeconds::check(by_points) {
+        return false;
+    }
+    by_segments == by_points
+}
+
+// The trouble of what follows a run's own 64 bytes.
+fn parts_trouble(s: &[u8], start: usize, n: Counts) -> Trouble
+    requires { ⌜ start + 64 ≤ length (now s) ⌝ }
+    ensures { λ r. ⌜ r ≡ partsTrouble (now (s .entry)) start n ⌝ }
+{
+    let points = n.points as usize;
+    let segments = n.segments as usize;
+    let weighings = n.weighings as usize;
+    let at_points = start + header::SIZE;
+    let t = point::troubles(s, at_points, points);
+    let Trouble::Clear = t else {
+        return t;
+    };
+    let at_segments = at_points + point::SIZE * points;
+    let t = segment::troubles(s, at_segments, segments);
+    let Trouble::Clear = t else {
+        return t;
+    };
+    let at_weighings = at_segments + segment::SIZE * segments;
+    let t = weighing::troubles(s, at_weighings, weighings);
+    t.unless(good_seconds(s, start, n), Trouble::SECONDS, start)
+}
+
+// The trouble of a run whose number has to be above `lower`.
+fn run_trouble(s: &[u8], start: usize, lower: u16) -> Trouble
+    requires { ⌜ start ≤ length (now s) ⌝ }
+    ensures { λ r. ⌜ r ≡ runTrouble (now (s .entry)) start lower ⌝ }
+{
+    let t = header::trouble(s, start);
+    let Trouble::Clear = t else {
+        return t;
+    };
+    let h = header::header(numbers::tail(s, start));
+    if h.number <= lower {
+        return Trouble::At(Trouble::REPEATED, start);
+    }
+    let n = h.counts;
+    parts_trouble(s, start, n)
+}
+
+// The place after the run that starts at `start`.
+fn next_start(s: &[u8], start: usize) -> usize
+    requires { ⌜ start ≤ length (now s) ⌝ }
+    ensures { λ r. ⌜ r ≡ nextStart (now (s .entry)) start ⌝ }
+{
+    let n = header::counts(numbers::tail(s, start));
+    let at_segments = start + header::SIZE + point::SIZE * (n.points as usize);
+    let at_weighings = at_segments + segment::SIZE * (n.segments as usize);
+    at_weighings + weighing::SIZE * (n.weighings as usize)
+}
+
+// The `n` runs of the file, the first of which starts at `first`, up to the first in trouble.
+pub fn read(s: &[u8], first: usize, n: usize) -> Walk
+    requires { ⌜ (n ≤ 16) × (first ≡ runStart (now s) 0) × (first ≤ length (now s)) ⌝ }
+    ensures { λ r. ⌜ WalkIs (now (s .entry)) n r ⌝ }
+{
+    let mut starts = [0usize; 16];
+    let mut at = first;
+    let mut lower: u16 = 0;
+    let mut k = 0;
+    while k < n {
+        let t = run_trouble(s, at, lower);
+        let Trouble::Clear = t else {
+            return Walk { trouble: t, starts };
+        };
+        starts[k] = at;
+        lower = numbers::u16_at(numbers::tail(s, at), 0);
+        at = next_start(s, at);
+        k += 1;
+    }
+    let t = Trouble::Clear;
+    Walk {
+        trouble: t.unless(s.len() <= at, Trouble::LEFT_OVER, at),
+        starts,
+    }
+}

@@ -1,0 +1,96 @@
+// A segment between two leak checks, 4 bytes.
+
+use fields::numbers;
+use fields::trouble::Trouble;
+use readings::points::LeakRate;
+use readings::points::Seconds;
+use records::Segment;
+ghost use mathlib.Core.Path.{_≡_};
+ghost use Prim.Native.Nat.{_*_, _≤_};
+ghost use lib.ListN.{length};
+ghost use Rattle.fields.specs.declared.trouble.Trouble.the-variants.{Clear};
+ghost use Rattle.fields.specs.Trouble.{checks};
+ghost use Rattle.records.specs.Records.{noSegment, sumTo};
+ghost use Rattle.parts.specs.Arrays.{padded};
+ghost use Rattle.parts.specs.Values.{segment, segmentAt};
+ghost use Rattle.parts.specs.Rows.{segmentRows, segmentTrouble, segmentsTrouble};
+
+pub const SIZE: usize = 4;
+
+pub fn segment(t: &[u8]) -> Segment
+    ensures { λ r. ⌜ r ≡ segment (now (t .entry)) ⌝ }
+{
+    Segment {
+        seconds: numbers::u16_at(t, 0),
+        leak: numbers::u16_at(t, 2),
+    }
+}
+
+fn rows(g: Segment) -> Trouble
+    ensures { λ r. ⌜ r ≡ checks Clear (segmentRows g) ⌝ }
+{
+    let t = Trouble::Clear;
+    let t = t.unless(Seconds::check(g.seconds), Trouble::FIELD, 0);
+    t.unless(LeakRate::check(g.leak), Trouble::FIELD, 2)
+}
+
+pub fn trouble(s: &[u8], at: usize) -> Trouble
+    ensures { λ r. ⌜ r ≡ segmentTrouble (now (s .entry)) at ⌝ }
+{
+    let t = numbers::tail(s, at);
+    if t.len() < SIZE {
+        return Trouble::At(Trouble::INCOMPLETE, s.len());
+    }
+    rows(segment(t)).from(at)
+}
+
+// The first trouble of `n` segments that stand one after the other from `at` on.
+pub fn troubles(s: &[u8], at: usize, n: usize) -> Trouble
+    requires { ⌜ (at ≤ length (now s)) × (n ≤ 255) ⌝ }
+    ensures { λ r. ⌜ r ≡ segmentsTrouble (now (s .entry)) at n ⌝ }
+{
+    let mut i = 0;
+    while i < n {
+        let t = trouble(s, at + SIZE * i);
+        let Trouble::Clear = t else {
+            return t;
+        };
+        i += 1;
+    }
+    Trouble::Clear
+}
+
+// The seconds of the `n` segments from the front of `t` on.
+pub fn seconds(t: &[u8], n: usize) -> u32
+    requires { ⌜ n ≤ 255 ⌝ }
+    ensures { λ r. ⌜ r ≡ sumTo (λ i. segmentAt (now (t .entry)) (4 * i) .seconds) n ⌝ }
+{
+    let mut total: u32 = 0;
+    let mut i = 0;
+    while i < n {
+        let p = numbers::tail(t, SIZE * i);
+        total += numbers::u16_at(p, 0) as u32;
+        i += 1;
+    }
+    total
+}
+
+// The `n` segments from the front of `t` on, as far as there is room.
+pub fn segments(t: &[u8], n: usize) -> [Segment; 16]
+    ensures { λ r. ⌜ r ≡ padded 16 noSegment (λ i. segmentAt (now (t .entry)) (4 * i)) n ⌝ }
+{
+    let none = Segment {
+        seconds: 0,
+        leak: 0,
+    };
+    let mut all = [none; 16];
+    let mut i = 0;
+    while i < n {
+        if 16 <= i {
+            return all;
+        }
+        all[i] = segment(numbers::tail(t, SIZE * i));
+        i += 1;
+    }
+    all
+}
