@@ -98,6 +98,10 @@ pub record Eligible (after : Bool) (kind : ℕ) (identity : Identity) (day : ℕ
   pub is : Of kind identity c
   pub dated : Dated after day (c .day)
 
+-- none of the first n is so dated
+abbrev pub NoneSoDated : Bool → ℕ → Identity → ℕ → (ℕ → Certificate) → ℕ → Type 0
+NoneSoDated after kind identity day f n = (i : ℕ) → i < n → Eligible after kind identity day (f i) → ⊥
+
 -- c is one of the first n, so dated, and no other so dated is nearer
 pub record Nearest (after : Bool) (kind : ℕ) (identity : Identity) (day : ℕ) (f : ℕ → Certificate) (n : ℕ) (c : Certificate) : Type 0 where
   pub index : ℕ
@@ -118,3 +122,9 @@ pub record Included (kind : ℕ) (identity : Identity) (f : ℕ → Certificate)
 pub record SameMembers (kind : ℕ) (identity : Identity) (f : ℕ → Certificate) (n : ℕ) (g : ℕ → Certificate) (m : ℕ) : Type 0 where
   pub into : Included kind identity f n g m
   pub back : Included kind identity g m f n
+
+-- two jobs hold the same certificates of the meter, the pitot tube and the nozzle that a run names
+pub record SameForRun (r : Run) (f : ℕ → Certificate) (n : ℕ) (g : ℕ → Certificate) (m : ℕ) : Type 0 where
+  pub meter : SameMembers meter (r .meter) f n g m
+  pub pitot : SameMembers pitot (r .pitot) f n g m
+  pub nozzle : SameMembers nozzle (r .nozzle) f n g m

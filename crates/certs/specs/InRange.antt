@@ -1,9 +1,11 @@
 -- When certificates are in range: the values of each kind pass their checks.
-use Prim.Native.Nat.{ℕ, _<_}
+use Prim.Native.Nat.{ℕ, _≤_, _<_}
 use mathlib.Core.Path.{_≡_}
 use mathlib.Core.Bool.{true}
 use Rattle.readings.specs.Ranges.{factor, coefficient, nozzleDiameter}
 use Rattle.records.specs.declared.Certificate.{Certificate}
+use Rattle.lines.specs.declared.Diameters.{Diameters}
+use Rattle.lines.specs.declared.Diameters.the-variants.{Measured}
 use Rattle.certs.specs.declared.Lookup.{Lookup}
 use Rattle.certs.specs.declared.Lookup.the-variants.{Found}
 use Rattle.certs.specs.declared.Chosen.{Chosen}
@@ -30,3 +32,7 @@ pub record ChosenOk (ch : Chosen) : Type 0 where
   pub after : (c : Certificate) → ch .after ≡ Found c → factor (c .first) ≡ true
   pub pitot : (c : Certificate) → ch .pitot ≡ Found c → coefficient (c .first) ≡ true
   pub nozzle : (c : Certificate) → ch .nozzle ≡ Found c → NozzleOk c
+
+-- diameters that, where they were measured, lie from least to greatest each
+pub record DiametersBetween (least greatest : ℕ) (d : Diameters) : Type 0 where
+  pub measured : (a b c : ℕ) → d ≡ Measured a b c → ((least ≤ a) × (a ≤ greatest)) × ((least ≤ b) × (b ≤ greatest)) × ((least ≤ c) × (c ≤ greatest))

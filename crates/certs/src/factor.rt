@@ -1,8 +1,11 @@
 // What the chosen certificates give the lines: the factor Y, the coefficient Cp and the nozzle's diameters.
 
-use crate::comparison::{Comparison, Way};
-use crate::{Chosen, Lookup};
-use lines::{Diameters, Value};
+use crate::Chosen;
+use crate::Lookup;
+use crate::comparison::Comparison;
+use crate::comparison::Way;
+use lines::Diameters;
+use lines::Value;
 ghost use mathlib.Core.Path.{_≡_};
 ghost use Prim.Native.Nat.{_≤_};
 ghost use Rattle.certs.specs.Factor.{distance, factorMoved, factor, factorOf, coefficientOf, diametersOf};

@@ -4,7 +4,9 @@
 pub mod comparison;
 pub mod factor;
 
-use records::{Certificate, Identity, Run};
+use records::Certificate;
+use records::Identity;
+use records::Run;
 ghost use mathlib.Core.Path.{_≡_};
 ghost use Prim.Native.Nat.{_≤_};
 ghost use Rattle.certs.specs.Choosing.{soDated, nearer, eligible, keep, certificateOf, chosen, chosenFor};

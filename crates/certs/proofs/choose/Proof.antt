@@ -42,13 +42,13 @@ loop-again c =
     let inv = c .before .before .before .before .loop .inv in (
       omega arith,
       ⊎-elim
-      (λ w. rw (w .2) (chosen-nearer _ _ _ _ _ _ (inv .1) (c .before .is-eligible .ensures) (w .0 .taken) (w .1 .ensures)))
-      (λ w. rw (w .1) (chosen-passed _ _ _ _ _ _ (inv .1) (c .before .is-eligible .ensures) (w .0 .left)))
-      (c .if1 .came)
+          (λ w. rw (w .2) (chosen-nearer _ _ _ _ _ _ (inv .1) (c .before .is-eligible .ensures) (w .0 .taken) (w .1 .ensures)))
+          (λ w. rw (w .1) (chosen-passed _ _ _ _ _ _ (inv .1) (c .before .is-eligible .ensures) (w .0 .left)))
+          (c .if1 .came),
     )
 
 returns : tie.Need-returns Inv-loop μ-loop
-returns c = 
+returns c =
     let end : c .before .loop .i ≡ c .before .before .args .count = omega arith in
     rw (← end) (c .before .loop .inv .1)
 
