@@ -1,0 +1,4 @@
+-- The laws of the rules and of the list, which the layers above cite.
+pub mod Products
+pub mod Grids
+pub mod Counted
