@@ -2,3 +2,4 @@
 pub mod Products
 pub mod Grids
 pub mod Counted
+pub mod Places

@@ -1,15 +1,17 @@
 -- The twenty rules, each by what it goes by.
-use Prim.Native.Nat.{ℕ, _+_, _-_, _*_, _/_, _≤_, min, max}
+use Prim.Native.Nat.{ℕ, _+_, _-_, _*_, _/_, _^_, _≤_, _<_, min, max}
 use mathlib.Core.Path.{_≡_}
 use mathlib.Core.Bool.{Bool, true, false, cond, not, _&&_}
 use mathlib.Core.List.{List, [], _∷_}
 use lib.Dec.{leb, ltb, eqb}
 use lib.IntN.{ℤ, pos}
 use lib.ListN.{getD}
+use Rattle.readings.specs.Ranges.{oneOf}
 use Rattle.records.specs.declared.Point.{Point}
 use Rattle.records.specs.declared.Segment.{Segment}
 use Rattle.records.specs.declared.Weighing.{Weighing}
 use Rattle.records.specs.declared.Site.{Site}
+use Rattle.records.specs.declared.Counts.{Counts}
 use Rattle.records.specs.declared.Run.{Run}
 use Rattle.records.specs.Records.{noWeighing, pointOf, segmentOf, weighingOf, sumTo}
 use Rattle.lines.specs.declared.Value.{Value}
@@ -65,8 +67,8 @@ halfDiameter s = cond (isRound s) (length (s .first) 2) (length (s .first * s .s
 -- r is the length l, whose parts are no larger than two sides can make them
 pub record IsLength (l r : Length) : Type 0 where
   pub is : r ≡ l
-  pub over : r .over ≤ 2 * (65535 * 65535)
-  pub under : r .under ≤ 131070
+  pub over : r .over ≤ 2 ^ 35
+  pub under : r .under ≤ 2 ^ 17
 
 -- 7: the diameter is below 12 in
 abbrev pub narrow : Site → Ground
@@ -143,36 +145,96 @@ lacking kind weighings n = Compared (compare (ofKind kind weighings n) Below 1)
 abbrev pub negative : ℤ → Ground
 negative catch = SignedBelow catch (pos 0)
 
--- What each rule goes by, rule 1 first; where a rule is about points, segments or weighings, i counts them from 0
-unfoldable pub grounds : Run → Chosen → Lines → ℕ → List Ground
-grounds r ch l i =
+-- The table: rules 1 to 6
+unfoldable pub certificateGrounds : Chosen → List Ground
+certificateGrounds ch =
     missing (ch .before)
     ∷ missing (ch .pitot)
     ∷ missing (ch .nozzle)
     ∷ missing (ch .after)
     ∷ moved (ch .before) (ch .after)
     ∷ uneven (ch .nozzle)
-    ∷ narrow (r .site)
-    ∷ disturbed (r .site)
-    ∷ wrongPoints (r .site) (r .counts .points)
-    ∷ short (pointOf r i)
-    ∷ leaking (l .metering .time) (l .metering .volume) (segmentOf r i)
-    ∷ judged (Known (l .metering .corrected)) Same 0
-    ∷ judged (l .metering .dry) Same 0
-    ∷ judged (l .stack .velocity) Same 0
-    ∷ judged (l .sampling .isokinetic) Below 9000
-    ∷ judged (l .sampling .isokinetic) Above 11000
-    ∷ unsteady (weighingOf r i)
-    ∷ lacking 1 (r .weighings) (r .counts .weighings)
-    ∷ lacking 2 (r .weighings) (r .counts .weighings)
-    ∷ negative (l .sampling .catch)
     ∷ []
 
--- what rule number `rule` goes by
+-- Rules 7 to 9, at a site with n points
+unfoldable pub siteGrounds : Site → ℕ → List Ground
+siteGrounds s n = narrow s ∷ disturbed s ∷ wrongPoints s n ∷ []
+
+-- Rules 10 and 11, of a point and a segment
+unfoldable pub fieldGrounds : Point → Segment → ℕ → ℕ → List Ground
+fieldGrounds p s t v = short p ∷ leaking t v s ∷ []
+
+-- Rules 12 to 16, of lines 3, 6, 15 and 18; line 6 is present only where line 3 is not 0 and Y is known
+unfoldable pub lineGrounds : ℕ → Value → Value → Value → List Ground
+lineGrounds corrected dry velocity isokinetic =
+    judged (Known corrected) Same 0
+    ∷ judged dry Same 0
+    ∷ judged velocity Same 0
+    ∷ judged isokinetic Below 9000
+    ∷ judged isokinetic Above 11000
+    ∷ []
+
+-- Rules 17 to 20, of a weighing, all n of them, and line 19
+unfoldable pub weighingGrounds : Weighing → List Weighing → ℕ → ℤ → List Ground
+weighingGrounds w ws n catch = unsteady w ∷ lacking 1 ws n ∷ lacking 2 ws n ∷ negative catch ∷ []
+
+-- what a rule goes by, in a part of the table that begins with rule `first`
+abbrev pub row : ℕ → List Ground → ℕ → Ground
+row first grounds rule = getD grounds (rule - first) Silent
+
+abbrev pub certificateGround : Chosen → ℕ → Ground
+certificateGround ch rule = row 1 (certificateGrounds ch) rule
+
+abbrev pub siteGround : Site → ℕ → ℕ → Ground
+siteGround s n rule = row 7 (siteGrounds s n) rule
+
+abbrev pub fieldGround : Point → Segment → ℕ → ℕ → ℕ → Ground
+fieldGround p s t v rule = row 10 (fieldGrounds p s t v) rule
+
+abbrev pub lineGround : ℕ → Value → Value → Value → ℕ → Ground
+lineGround corrected dry velocity isokinetic rule = row 12 (lineGrounds corrected dry velocity isokinetic) rule
+
+abbrev pub weighingGround : Weighing → List Weighing → ℕ → ℤ → ℕ → Ground
+weighingGround w ws n catch rule = row 17 (weighingGrounds w ws n catch) rule
+
+-- What a rule goes by; of a rule about points, segments or weighings, i counts them from 0
 unfoldable pub groundOf : Run → Chosen → Lines → ℕ → ℕ → Ground
-groundOf r ch l rule i = getD (grounds r ch l i) (rule - 1) Silent
+groundOf r ch l rule i =
+    cond (leb rule 6) (certificateGround ch rule)
+    (cond (leb rule 9) (siteGround (r .site) (r .counts .points) rule)
+    (cond (leb rule 11) (fieldGround (pointOf r i) (segmentOf r i) (l .metering .time) (l .metering .volume) rule)
+    (cond (leb rule 16) (lineGround (l .metering .corrected) (l .metering .dry) (l .stack .velocity) (l .sampling .isokinetic) rule)
+    (weighingGround (weighingOf r i) (r .weighings) (r .counts .weighings) (l .sampling .catch) rule))))
 
 -- of how many places a rule speaks: points, segments or weighings, and otherwise the whole run
-unfoldable pub placesOf : Run → ℕ → ℕ
-placesOf r rule =
-    cond (eqb rule 10) (r .counts .points) (cond (eqb rule 11) (r .counts .segments) (cond (eqb rule 17) (r .counts .weighings) 1))
+unfoldable pub placesOf : Counts → ℕ → ℕ
+placesOf n rule =
+    cond (eqb rule 10) (n .points) (cond (eqb rule 11) (n .segments) (cond (eqb rule 17) (n .weighings) 1))
+
+-- the place of a finding: 1 upward, and 0 when the rule is about the whole run
+unfoldable pub placeOf : ℕ → ℕ → ℕ
+placeOf rule i = cond (oneOf (10 ∷ 11 ∷ 17 ∷ []) rule) (i + 1) 0
+
+-- the class of a finding, 1 fault or 2 note: notes are 5 and 11, the rest are faults
+unfoldable pub classOf : ℕ → ℕ
+classOf rule = cond (oneOf (5 ∷ 11 ∷ []) rule) 2 1
+
+-- rule 10 or 11, at one of its places, of a time and a volume in range
+pub record OfField (i t v rule : ℕ) : Type 0 where
+  pub first : 10 ≤ rule
+  pub last : rule ≤ 11
+  pub point : rule ≡ 10 → i < 64
+  pub segment : rule ≡ 11 → i < 16
+  pub time : t ≤ 36000
+  pub volume : v ≤ 999999
+
+-- a rule can be judged at i: it is one of the twenty, i is one of its places, and the run's counts and lines are in range
+pub record Judged (r : Run) (l : Lines) (rule i : ℕ) : Type 0 where
+  pub first : 1 ≤ rule
+  pub last : rule ≤ 20
+  pub inside : i < placesOf (r .counts) rule
+  pub points : r .counts .points ≤ 64
+  pub segments : r .counts .segments ≤ 16
+  pub weighings : r .counts .weighings ≤ 8
+  pub time : l .metering .time ≤ 36000
+  pub volume : l .metering .volume ≤ 999999

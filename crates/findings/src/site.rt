@@ -7,7 +7,8 @@ use certs::comparison::Way;
 use readings::runs::Shape;
 use records::Site;
 ghost use mathlib.Core.Path.{_≡_};
-ghost use Rattle.findings.specs.Rules.{diameter, halfDiameter, narrow, disturbed, undisturbed, wide, minimumPoints, grids, nextGrid, nextAllowed, wrongPoints, IsLength};
+ghost use Prim.Native.Nat.{_≤_};
+ghost use Rattle.findings.specs.Rules.{diameter, halfDiameter, narrow, disturbed, undisturbed, wide, minimumPoints, grids, nextGrid, nextAllowed, wrongPoints, siteGround, IsLength};
 
 // The least diameter, 0.1 in.
 const LEAST_DIAMETER: u64 = 120;
@@ -22,7 +23,7 @@ pub struct Length {
 }
 
 // The stack's diameter: of a rectangle 2LW/(L+W).
-pub fn diameter(site: Site) -> Length
+fn diameter(site: Site) -> Length
     ensures { λ r. ⌜ IsLength (diameter site) r ⌝ }
 {
     let first = site.first as u64;
@@ -40,7 +41,7 @@ pub fn diameter(site: Site) -> Length
 }
 
 // Half of it.
-pub fn half_diameter(site: Site) -> Length
+fn half_diameter(site: Site) -> Length
     ensures { λ r. ⌜ IsLength (halfDiameter site) r ⌝ }
 {
     let first = site.first as u64;
@@ -58,7 +59,7 @@ pub fn half_diameter(site: Site) -> Length
 }
 
 // Rule 7: the diameter is below 12 in.
-pub fn narrow(site: Site) -> Ground
+fn narrow(site: Site) -> Ground
     ensures { λ r. ⌜ r ≡ narrow site ⌝ }
 {
     let d = diameter(site);
@@ -70,7 +71,7 @@ pub fn narrow(site: Site) -> Ground
 }
 
 // Rule 8: the next disturbance is nearer than half a diameter, or the last one nearer than two.
-pub fn disturbed(site: Site) -> Ground
+fn disturbed(site: Site) -> Ground
     ensures { λ r. ⌜ r ≡ disturbed site ⌝ }
 {
     let half = half_diameter(site);
@@ -151,7 +152,7 @@ pub fn next_allowed(shape: u8, n: u8) -> u64
 }
 
 // Rule 9: fewer points than the least number, or a number that is not allowed.
-pub fn wrong_points(site: Site, points: u8) -> Ground
+fn wrong_points(site: Site, points: u8) -> Ground
     ensures { λ r. ⌜ r ≡ wrongPoints site points ⌝ }
 {
     let least = minimum_points(site);
@@ -168,4 +169,16 @@ pub fn wrong_points(site: Site, points: u8) -> Ground
             right: allowed,
         },
     )
+}
+
+// What rules 7 to 9 go by.
+pub fn ground_of(site: Site, points: u8, rule: u8) -> Ground
+    requires { ⌜ (7 ≤ rule) × (rule ≤ 9) ⌝ }
+    ensures { λ r. ⌜ r ≡ siteGround site points rule ⌝ }
+{
+    match rule {
+        7 => narrow(site),
+        8 => disturbed(site),
+        _ => wrong_points(site, points),
+    }
 }

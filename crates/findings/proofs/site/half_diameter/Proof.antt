@@ -1,5 +1,5 @@
 -- `half_diameter` is `halfDiameter`; the sides fit 16 bits, which bounds both parts of the fraction.
-use Prim.Native.Nat.{_≤_}
+use Prim.Native.Nat.{_^_, _≤_, _<_}
 use native.Mathlib.Omega.{arith}
 use borrow.Author.Tests.{eq-eqb, ne-eqb}
 use borrow.Author.Needs.{needs}
@@ -20,8 +20,8 @@ returns c = record { is = rw (eq-eqb _ _ (c .if1 .taken)); over = omega arith; u
 
 mul-t5 : tie.Need-mul-t5
 mul-t5 c =
-    let a : c .before .before .before .before .args .site .first ≤ 65535 = omega arith in
-    let b : c .before .before .before .before .args .site .second ≤ 131070 = omega arith in
+    let a : c .before .before .before .before .args .site .first < 2 ^ 16 = omega arith in
+    let b : c .before .before .before .before .args .site .second ≤ 2 ^ 17 = omega arith in
     product-fits _ _ a b
 
 add-t6 : tie.Need-add-t6
@@ -30,8 +30,8 @@ add-t6 c = search needs
 returns-2 : tie.Need-returns-2
 unfolding halfDiameter
 returns-2 c =
-    let a : c .before .before .before .before .args .site .first ≤ 65535 = omega arith in
-    let b : c .before .before .before .before .args .site .second ≤ 131070 = omega arith in
+    let a : c .before .before .before .before .args .site .first < 2 ^ 16 = omega arith in
+    let b : c .before .before .before .before .args .site .second ≤ 2 ^ 17 = omega arith in
     record {
       is = rw (ne-eqb _ _ (c .if1 .left));
       over = omega (arith, product-le _ _ a b);

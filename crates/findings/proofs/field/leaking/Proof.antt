@@ -3,8 +3,8 @@ use Prim.Native.Nat.{_*_, _≤_}
 use native.Mathlib.Nat.{mul-le-mul}
 use native.Mathlib.Omega.{arith}
 use borrow.Author.Needs.{needs}
-use Rattle.findings.proofs.parts.leaking.Statement.{statement}
-use Rattle.findings.proofs.parts.leaking.Tie as tie
+use Rattle.findings.proofs.field.leaking.Statement.{statement}
+use Rattle.findings.proofs.field.leaking.Tie as tie
 
 mul-t4 : tie.Need-mul-t4
 mul-t4 c = search needs

@@ -1,8 +1,8 @@
 -- `allowance` is its definition.
 use borrow.Author.Needs.{needs}
 use Rattle.lines.specs.Metering.{allowance}
-use Rattle.findings.proofs.parts.allowance.Statement.{statement}
-use Rattle.findings.proofs.parts.allowance.Tie as tie
+use Rattle.findings.proofs.field.allowance.Statement.{statement}
+use Rattle.findings.proofs.field.allowance.Tie as tie
 
 mul-lower : tie.Need-mul-lower
 mul-lower c = search needs

@@ -1,7 +1,7 @@
 -- `unsteady` is its definition.
 use borrow.Author.Needs.{needs}
-use Rattle.findings.proofs.parts.unsteady.Statement.{statement}
-use Rattle.findings.proofs.parts.unsteady.Tie as tie
+use Rattle.findings.proofs.weighings.unsteady.Statement.{statement}
+use Rattle.findings.proofs.weighings.unsteady.Tie as tie
 
 cast-distance : tie.Need-cast-distance
 cast-distance c = search needs

@@ -5,8 +5,8 @@ use mathlib.Core.Logic.{⊎-elim}
 use native.Mathlib.Omega.{arith}
 use Rattle.findings.specs.Rules.{ofKind}
 use Rattle.findings.proofs.Counted.{kind-none, kind-counted, kind-passed}
-use Rattle.findings.proofs.parts.of_kind.Statement.{statement}
-use Rattle.findings.proofs.parts.of_kind.Tie as tie
+use Rattle.findings.proofs.weighings.of_kind.Statement.{statement}
+use Rattle.findings.proofs.weighings.of_kind.Tie as tie
 
 abbrev Inv-loop : tie.InvT-loop
 Inv-loop kind n weighings count found₀ i₀ found i =

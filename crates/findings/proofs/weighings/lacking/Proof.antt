@@ -1,7 +1,7 @@
 -- `lacking` is its definition.
 use borrow.Author.Needs.{needs}
-use Rattle.findings.proofs.parts.lacking.Statement.{statement}
-use Rattle.findings.proofs.parts.lacking.Tie as tie
+use Rattle.findings.proofs.weighings.lacking.Statement.{statement}
+use Rattle.findings.proofs.weighings.lacking.Tie as tie
 
 of-kind-requires : tie.Need-of-kind-requires
 of-kind-requires c κs = search needs
