@@ -3,3 +3,6 @@ pub mod Products
 pub mod Grids
 pub mod Counted
 pub mod Places
+pub mod Filling
+pub mod InRange
+pub mod Most
