@@ -37,7 +37,7 @@ unfolding listed
 stands-listed s = λ i. record { count = s .count i; list = s .list i }
 
 -- a number that never falls from one step to the next
-rising : (f : ℕ → ℕ) → ((i : ℕ) → f i ≤ f (suc i)) → (i j : ℕ) → i ≤ j → f i ≤ f j
+pub rising : (f : ℕ → ℕ) → ((i : ℕ) → f i ≤ f (suc i)) → (i j : ℕ) → i ≤ j → f i ≤ f j
 rising f up zero zero l = le-refl (f zero)
 rising f up (suc i) zero l = absurd (not-suc-le-zero l)
 rising f up i (suc j) l = go (eq-or-lt-of-le l) (λ (h : i ≤ j). rising f up i j h)
@@ -88,7 +88,7 @@ module _ (isBroken : ℕ → ℕ → Bool) (places : ℕ → ℕ) where
       let now : List Finding = ruleFindings (isBroken (k + 1)) (k + 1) i in
       let all : List Finding = ruleFindings (isBroken (k + 1)) (k + 1) (places (k + 1)) in
       let more : length (ruleFindings (isBroken (k + 1)) (k + 1) (i + 1)) ≡ length now + 1 =
-          ap length (found-more (k + 1) i t e) ∙ length-append now (findingAt (k + 1) i ∷ []) in
+      ap length (found-more (k + 1) i t e) ∙ length-append now (findingAt (k + 1) i ∷ []) in
       let place-le : i + 1 ≤ places (k + 1) = omega arith in
       let rule-le : k + 1 ≤ 20 = omega arith in
       let next : length (findingsTo isBroken places (k + 1)) ≡ length fs + length all = ap length (rule-more k) ∙ length-append fs all in

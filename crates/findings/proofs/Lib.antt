@@ -5,4 +5,6 @@ pub mod Counted
 pub mod Places
 pub mod Filling
 pub mod InRange
+pub mod Absent
 pub mod Most
+pub mod Accepting

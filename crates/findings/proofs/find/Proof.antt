@@ -9,7 +9,7 @@ use Rattle.findings.specs.Rules.{placesOf}
 use Rattle.findings.specs.Listing.{brokenAt, findings, findingsTo, ruleFindings}
 use Rattle.findings.proofs.Filling.{Stands, stands-none, stands-first, stands-room, stands-found, stands-passed, stands-rule, stands-listed, rule-none}
 use Rattle.findings.proofs.InRange.{judged}
-use Rattle.findings.proofs.Most.{at-most}
+use Rattle.findings.proofs.Most.{all-fit}
 use Rattle.findings.proofs.find.Statement.{statement}
 use Rattle.findings.proofs.find.Tie as tie
 
@@ -41,10 +41,10 @@ loop2-holds : tie.Need-loop2-holds Inv-loop2 μ-loop2 Inv-loop μ-loop
 loop2-holds c = (omega arith, stands-first _ _ _ (c .before .before .loop .inv .1))
 
 broken-at-requires : tie.Need-broken-at-requires Inv-loop2 μ-loop2 Inv-loop μ-loop
-broken-at-requires c κs = 
+broken-at-requires c κs =
     let start = c .before .before .before .before .before in
     let place-in : c .before .loop2 .i < placesOf (start .args .run .counts) (c .before .before .before .before .loop .done + 1) =
-        rw (c .before .before .places .ensures) at (c .loop2-test .taken) in
+    rw (c .before .before .places .ensures) at (c .loop2-test .taken) in
     judged _ (start .args .chosen) _ (start .pre) _ _ (omega arith) (omega (arith, c .before .before .before .loop-test .taken)) place-in
 
 -- a broken rule finds room
@@ -52,7 +52,7 @@ has-room : (c : tie.After-finding-at Inv-loop2 μ-loop2 Inv-loop μ-loop) → c 
 has-room c =
     let turn = c .before .before .before in
     let start = turn .before .before .before .before .before in
-    stands-room _ _ _ _ (at-most _ _ _ (start .pre)) (turn .before .before .before .loop-test .taken) (rw (turn .before .before .places .ensures) at (turn .loop2-test .taken)) (c .before .before .broken-at .ensures) (c .before .if1 .taken) (turn .before .loop2 .inv .1)
+    stands-room _ _ _ _ (all-fit _ _ _ (start .pre)) (turn .before .before .before .loop-test .taken) (rw (turn .before .before .places .ensures) at (turn .loop2-test .taken)) (c .before .before .broken-at .ensures) (c .before .if1 .taken) (turn .before .loop2 .inv .1)
 
 finding-at-requires : tie.Need-finding-at-requires Inv-loop2 μ-loop2 Inv-loop μ-loop
 finding-at-requires c κs = search needs
@@ -80,7 +80,7 @@ loop2-again c =
     (λ w. (
       omega arith,
       rw (w .2, w .3)
-      (stands-found _ _ _ _ (at-most _ _ _ (start .pre)) (turn .before .before .before .loop-test .taken) (rw (turn .before .before .places .ensures) at (turn .loop2-test .taken)) (c .before .broken-at .ensures) (w .0 .taken) (w .1 .ensures) (turn .before .loop2 .inv .1)),
+          (stands-found _ _ _ _ (all-fit _ _ _ (start .pre)) (turn .before .before .before .loop-test .taken) (rw (turn .before .before .places .ensures) at (turn .loop2-test .taken)) (c .before .broken-at .ensures) (w .0 .taken) (w .1 .ensures) (turn .before .loop2 .inv .1)),
     ))
     (λ w. (omega arith, rw (w .1, w .2) (stands-passed _ _ _ _ (c .before .broken-at .ensures) (w .0 .left) (turn .before .loop2 .inv .1))))
     (c .if1 .came)
