@@ -5,13 +5,15 @@ use borrow.Author.Tests.{eq-eqb}
 use Rattle.records.specs.declared.Run.{Run}
 use Rattle.lines.specs.declared.Value.{Value}
 use Rattle.lines.specs.declared.Value.the-variants.{Known, Missing}
-use Rattle.lines.specs.declared.Diameters.{Diameters}
 use Rattle.lines.specs.declared.Lines.{Lines}
 use Rattle.lines.specs.Promise.{unlessZero}
 use Rattle.lines.specs.Metering.{dryVolume, moisture}
 use Rattle.lines.specs.Stack.{wetWeight, densityRoot, velocity}
 use Rattle.lines.specs.Sampling.{isokinetic}
 use Rattle.lines.specs.Sheet.{metering, stack, sampling, lines}
+use Rattle.certs.specs.declared.Chosen.{Chosen}
+use Rattle.certs.specs.Factor.{factorOf, coefficientOf}
+use Rattle.findings.specs.Listing.{linesFor}
 
 -- line 6 without line 3
 dry-missing : (y : Value) (corrected pressure temperature : ℕ) → corrected ≡ 0 → dryVolume corrected y pressure temperature ≡ Missing
@@ -37,23 +39,23 @@ isokinetic-still Missing area t = refl
 isokinetic-still (Known drawn) Missing t = refl
 isokinetic-still (Known drawn) (Known area) t = refl
 
-module _ (r : Run) (y cp : Value) (nozzle : Diameters) (l : Lines) (is : l ≡ lines r y cp nozzle) where
+module _ (r : Run) (ch : Chosen) (l : Lines) (is : l ≡ linesFor r ch) where
   pub no-volume : l .metering .corrected ≡ 0 → l .metering .dry ≡ Missing
-  unfolding lines metering
-  no-volume e = rw is (dry-missing y _ _ _ (rw is at e))
+  unfolding linesFor lines metering
+  no-volume e = rw is (dry-missing (factorOf ch) _ _ _ (rw is at e))
 
   pub no-moisture : l .metering .dry ≡ Missing → l .stack .velocity ≡ Missing
-  unfolding lines metering stack moisture
-  no-moisture e = rw (is, rw is at e) (velocity-missing cp _ _ _ _)
+  unfolding linesFor lines metering stack moisture
+  no-moisture e = rw (is, rw is at e) (velocity-missing (coefficientOf ch) _ _ _ _)
 
   pub no-gas : l .metering .dry ≡ Known 0 → l .stack .velocity ≡ Missing
-  unfolding lines metering stack moisture unlessZero
-  no-gas e = rw (is, rw is at e) (velocity-missing cp _ _ _ _)
+  unfolding linesFor lines metering stack moisture unlessZero
+  no-gas e = rw (is, rw is at e) (velocity-missing (coefficientOf ch) _ _ _ _)
 
   pub no-velocity : l .stack .velocity ≡ Missing → l .sampling .isokinetic ≡ Missing
-  unfolding lines sampling
+  unfolding linesFor lines sampling
   no-velocity e = rw (is, rw is at e) (isokinetic-missing _ _ _)
 
   pub no-flow : l .stack .velocity ≡ Known 0 → l .sampling .isokinetic ≡ Missing
-  unfolding lines sampling
+  unfolding linesFor lines sampling
   no-flow e = rw (is, rw is at e) (isokinetic-still _ _ _)

@@ -9,14 +9,14 @@ use Rattle.lines.specs.Metering.{time, meteredVolume}
 use Rattle.lines.specs.Sheet.{metering, lines}
 use Rattle.certs.specs.declared.Chosen.{Chosen}
 use Rattle.findings.specs.Rules.{placesOf, Judged}
-use Rattle.findings.specs.Listing.{Worked}
+use Rattle.findings.specs.Listing.{linesFor, Worked}
 
 worked-time : (r : Run) (ch : Chosen) (l : Lines) → Worked r ch l → l .metering .time ≤ 36000
-unfolding lines metering time
+unfolding linesFor lines metering time
 worked-time r ch l w = rw (w .lines) (within-greatest 0 36000 _ (w .ok .total))
 
 worked-volume : (r : Run) (ch : Chosen) (l : Lines) → Worked r ch l → l .metering .volume ≤ 999999
-unfolding lines metering meteredVolume
+unfolding linesFor lines metering meteredVolume
 worked-volume r ch l w =
     rw (w .lines) (omega (arith, within-greatest (r .first + 0) (r .first + 999999) _ (w .ok .last)))
 

@@ -8,3 +8,8 @@ pub mod InRange
 pub mod Absent
 pub mod Most
 pub mod Accepting
+pub mod Members
+pub mod Sorted
+pub mod Independence
+pub mod Starred
+pub mod Reached

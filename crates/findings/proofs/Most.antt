@@ -16,14 +16,12 @@ use Rattle.records.specs.declared.Run.{Run}
 use Rattle.records.specs.Records.{noWeighing, weighingOf, sumTo}
 use Rattle.lines.specs.declared.Value.{Value}
 use Rattle.lines.specs.declared.Value.the-variants.{Known, Missing}
-use Rattle.lines.specs.declared.Diameters.{Diameters}
 use Rattle.lines.specs.declared.Lines.{Lines}
 use Rattle.certs.specs.declared.Lookup.{Lookup}
 use Rattle.certs.specs.declared.Lookup.the-variants.{Found, Nothing}
 use Rattle.certs.specs.declared.Chosen.{Chosen}
 use Rattle.certs.specs.declared.comparison.Way.the-variants.{Below, Above, Same}
 use Rattle.certs.specs.Comparing.{holds}
-use Rattle.certs.specs.Factor.{factorOf, coefficientOf, diametersOf}
 use Rattle.findings.specs.Grounds.{broken}
 use Rattle.findings.specs.Rules.{missing, moved, uneven, judged, ofKind, oneOfKind, lacking, certificateGrounds, siteGrounds, fieldGrounds, lineGrounds, weighingGrounds, groundOf, placesOf}
 use Rattle.findings.specs.Listing.{brokenAt, findingAt, ruleFindings, findingsTo, findings, most, Worked}
@@ -163,24 +161,15 @@ module _ (r : Run) (ch : Chosen) (l : Lines) (w : Worked r ch l) where
   unfolding brokenAt groundOf lineGrounds
   lines-once =
       zero-once _ _ (zero-once _ _ (zero-once _ _ (percent-once _)
-      (λ e. percent-missing _ (no-flow r y cp d l (w .lines) e)))
-      (λ e. after-velocity (no-gas r y cp d l (w .lines) e)))
-      (λ e. let zero-volume : l .metering .corrected ≡ 0 = cc in after-dry (no-volume r y cp d l (w .lines) zero-volume))
+      (λ e. percent-missing _ (no-flow r ch l (w .lines) e)))
+      (λ e. after-velocity (no-gas r ch l (w .lines) e)))
+      (λ e. let zero-volume : l .metering .corrected ≡ 0 = cc in after-dry (no-volume r ch l (w .lines) zero-volume))
     where
-      y : Value
-      y = factorOf ch
-
-      cp : Value
-      cp = coefficientOf ch
-
-      d : Diameters
-      d = diametersOf ch
-
       after-velocity : l .stack .velocity ≡ Missing → bit (broken (judged (l .stack .velocity) Same 0)) + (bit (broken (judged (l .sampling .isokinetic) Below 9000)) + bit (broken (judged (l .sampling .isokinetic) Above 11000))) ≡ 0
-      after-velocity e = zero-missing _ _ e (percent-missing _ (no-velocity r y cp d l (w .lines) e))
+      after-velocity e = zero-missing _ _ e (percent-missing _ (no-velocity r ch l (w .lines) e))
 
       after-dry : l .metering .dry ≡ Missing → bit (broken (judged (l .metering .dry) Same 0)) + (bit (broken (judged (l .stack .velocity) Same 0)) + (bit (broken (judged (l .sampling .isokinetic) Below 9000)) + bit (broken (judged (l .sampling .isokinetic) Above 11000)))) ≡ 0
-      after-dry e = zero-missing _ _ e (after-velocity (no-moisture r y cp d l (w .lines) e))
+      after-dry e = zero-missing _ _ e (after-velocity (no-moisture r ch l (w .lines) e))
 
   -- how many findings rule number `rule` has
   has : ℕ → ℕ

@@ -2,3 +2,4 @@
 pub mod Grounds
 pub mod Rules
 pub mod Listing
+pub mod Starred

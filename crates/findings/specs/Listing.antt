@@ -3,8 +3,9 @@ use Prim.Native.Nat.{ℕ, zero, suc, _+_, _-_, _≤_, _<_}
 use mathlib.Core.Path.{_≡_}
 use mathlib.Core.Bool.{Bool, true, false, cond, not, _&&_}
 use mathlib.Core.List.{List, [], _∷_, _++_}
+use mathlib.Core.Logic.{_⊎_}
 use lib.Dec.{eqb}
-use lib.ListN.{length, replicate}
+use lib.ListN.{length, getD, replicate}
 use Rattle.records.specs.declared.Run.{Run}
 use Rattle.records.specs.InRange.{RunOk}
 use Rattle.lines.specs.declared.Lines.{Lines}
@@ -56,10 +57,17 @@ noFinding = record { rule = 0; class = 0; place = 0 }
 unfoldable pub listed : List Finding → Findings
 listed fs = record { count = length fs; list = fs ++ replicate (most - length fs) noFinding }
 
+-- the lines of a run with its chosen certificates, and the findings that those lines give
+unfoldable pub linesFor : Run → Chosen → Lines
+linesFor r ch = lines r (factorOf ch) (coefficientOf ch) (diametersOf ch)
+
+unfoldable pub findingsFor : Run → Chosen → List Finding
+findingsFor r ch = findings r ch (linesFor r ch)
+
 -- a run in range, with the lines that it and its chosen certificates give
 pub record Worked (r : Run) (ch : Chosen) (l : Lines) : Type 0 where
   pub ok : RunOk r
-  pub lines : l ≡ lines r (factorOf ch) (coefficientOf ch) (diametersOf ch)
+  pub lines : l ≡ linesFor r ch
 
 -- What the list is promised to be, in the paper's words
 
@@ -71,3 +79,13 @@ pub record Breaks (r : Run) (ch : Chosen) (l : Lines) (rule place : ℕ) : Type 
   pub inside : index < placesOf (r .counts) rule
   pub there : place ≡ placeOf rule index
   pub broken : brokenAt r ch l rule index ≡ true
+
+-- a list holds a finding of that rule at that place
+pub record Holds (fs : List Finding) (rule place : ℕ) : Type 0 where
+  pub index : ℕ
+  pub inside : index < length fs
+  pub same : (getD fs index noFinding .rule ≡ rule) × (getD fs index noFinding .place ≡ place)
+
+-- one finding stands before another: by rule, and then by place
+abbrev pub Precedes : Finding → Finding → Type 0
+Precedes a b = (a .rule < b .rule) ⊎ ((a .rule ≡ b .rule) × (a .place < b .place))
