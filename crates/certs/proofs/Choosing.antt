@@ -1,7 +1,7 @@
 -- The laws of the choice: what it answers, when it answers nothing, and that only the certificates of its kind, maker and serial count.
-use Prim.Native.Nat.{ℕ, zero, suc, _+_, _≤_, _<_}
-use mathlib.Core.Path.{_≡_, refl, sym, _∙_, ap, subst}
-use mathlib.Core.Bool.{Bool, true, false, false≢true, cond, _&&_}
+use Prim.Native.Nat.{ℕ, zero, suc, _+_, _<_}
+use mathlib.Core.Path.{_≡_, refl, sym, _∙_, ap}
+use mathlib.Core.Bool.{Bool, true, false, false≢true, cond}
 use mathlib.Core.Logic.{_⊎_, inl, inr, _↔_}
 use native.Mathlib.Nat.{lt-suc-self, lt-trans, le-antisymm, le-trans, le-of-lt, le-refl}
 use native.Mathlib.Numerals.{add-one}
@@ -16,7 +16,7 @@ use Rattle.records.specs.Records.{sameIdentity}
 use Rattle.records.proofs.Identities.{both-left, both-right, same-equal, same-refl}
 use Rattle.certs.specs.declared.Lookup.{Lookup}
 use Rattle.certs.specs.declared.Lookup.the-variants.{Found, Nothing}
-use Rattle.certs.specs.Choosing.{soDated, nearer, eligible, keep, chosen, chosenFor, meter, pitot, nozzle, Dated, NoNearer, Of, Eligible, NoneSoDated, Nearest, Unique, Included, SameMembers, SameForRun}
+use Rattle.certs.specs.Choosing.{soDated, nearer, eligible, keep, chosen, chosenFor, meter, pitot, nozzle, Dated, NoNearer, Eligible, NoneSoDated, Nearest, Unique, Included, SameMembers, SameForRun}
 
 -- One more certificate: for the loop that looks at each in turn
 module _ (after : Bool) (kind : ℕ) (identity : Identity) (day : ℕ) (f : ℕ → Certificate) where

@@ -1,6 +1,6 @@
 -- The ranges of what certificates give: certificates in range give a factor, a coefficient and diameters in range.
 use Prim.Native.Nat.{ℕ, _≤_, min}
-use mathlib.Core.Path.{_≡_, refl, sym, _∙_}
+use mathlib.Core.Path.{_≡_, refl}
 use mathlib.Core.Bool.{Bool, true, false, cond}
 use native.Mathlib.Omega.{arith}
 use Rattle.readings.specs.Ranges.{within}
@@ -8,10 +8,7 @@ use Rattle.readings.proofs.Ranges.{within-least, within-greatest}
 use Rattle.records.specs.declared.Certificate.{Certificate}
 use Rattle.records.specs.declared.Identity.{Identity}
 use Rattle.records.specs.declared.Run.{Run}
-use Rattle.lines.specs.declared.Value.{Value}
 use Rattle.lines.specs.declared.Value.the-variants.{Known, Missing}
-use Rattle.lines.specs.declared.Diameters.{Diameters}
-use Rattle.lines.specs.declared.Diameters.the-variants.{Measured, Unknown}
 use Rattle.lines.specs.Promise.{Between}
 use Rattle.certs.specs.declared.Lookup.{Lookup}
 use Rattle.certs.specs.declared.Lookup.the-variants.{Found, Nothing}

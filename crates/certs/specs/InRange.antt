@@ -6,7 +6,6 @@ use Rattle.readings.specs.Ranges.{factor, coefficient, nozzleDiameter}
 use Rattle.records.specs.declared.Certificate.{Certificate}
 use Rattle.lines.specs.declared.Diameters.{Diameters}
 use Rattle.lines.specs.declared.Diameters.the-variants.{Measured}
-use Rattle.certs.specs.declared.Lookup.{Lookup}
 use Rattle.certs.specs.declared.Lookup.the-variants.{Found}
 use Rattle.certs.specs.declared.Chosen.{Chosen}
 use Rattle.certs.specs.Choosing.{meter, pitot, nozzle}

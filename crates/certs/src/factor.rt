@@ -7,7 +7,6 @@ use crate::comparison::Way;
 use lines::Diameters;
 use lines::Value;
 ghost use mathlib.Core.Path.{_≡_};
-ghost use Prim.Native.Nat.{_≤_};
 ghost use Rattle.certs.specs.Factor.{distance, factorMoved, factor, factorOf, coefficientOf, diametersOf};
 
 // 5 percent of the before factor: a difference is more where as many times it is more than the factor.

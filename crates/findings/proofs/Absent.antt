@@ -1,6 +1,6 @@
 -- Which lines are absent when another is absent or 0, so that rules 12 to 16 exclude one another.
 use Prim.Native.Nat.{ℕ}
-use mathlib.Core.Path.{_≡_, refl, sym, _∙_}
+use mathlib.Core.Path.{_≡_, refl}
 use borrow.Author.Tests.{eq-eqb}
 use Rattle.records.specs.declared.Run.{Run}
 use Rattle.lines.specs.declared.Value.{Value}

@@ -1,8 +1,7 @@
 -- What a run in range and its lines keep small enough to judge.
 use Prim.Native.Nat.{ℕ, _+_, _≤_, _<_}
-use mathlib.Core.Path.{_≡_, sym}
 use native.Mathlib.Omega.{arith}
-use Rattle.readings.proofs.Ranges.{within-least, within-greatest}
+use Rattle.readings.proofs.Ranges.{within-greatest}
 use Rattle.records.specs.declared.Run.{Run}
 use Rattle.lines.specs.declared.Lines.{Lines}
 use Rattle.lines.specs.Metering.{time, meteredVolume}

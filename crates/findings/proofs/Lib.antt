@@ -13,3 +13,4 @@ pub mod Sorted
 pub mod Independence
 pub mod Starred
 pub mod Reached
+pub mod Words

@@ -1,19 +1,18 @@
 -- A run has at most 98 findings: of 3 and 6, of 4 and 5, and of 12 to 16 at most one can be broken, and with eight weighings not both 18 and 19.
 use Prim.Native.Nat.{ℕ, zero, suc, _+_, _≤_, _<_}
-use mathlib.Core.Path.{_≡_, refl, sym, _∙_, ap}
-use mathlib.Core.Bool.{Bool, true, false, cond, false≢true}
-use mathlib.Core.List.{List, [], _∷_, _++_}
-use mathlib.Core.Logic.{_⊎_, inl, inr}
-use native.Mathlib.Nat.{le-trans, le-refl}
+use mathlib.Core.Path.{_≡_, refl, _∙_, ap}
+use mathlib.Core.Bool.{Bool, true, false, cond}
+use mathlib.Core.List.{List, [], _∷_}
+use native.Mathlib.Nat.{le-refl}
 use native.Mathlib.Decide.{decLe}
 use native.Mathlib.Omega.{arith}
-use borrow.Author.Tests.{eq-eqb, ne-eqb, eqb-true, lt-ltb, le-ltb, ltb-true}
+use borrow.Author.Tests.{eq-eqb, eqb-true, le-ltb, ltb-true}
 use lib.Dec.{eqb, ltb}
 use lib.ListN.{length, getD, length-append}
 use Rattle.readings.proofs.Ranges.{within-least, within-greatest}
 use Rattle.records.specs.declared.Weighing.{Weighing}
 use Rattle.records.specs.declared.Run.{Run}
-use Rattle.records.specs.Records.{noWeighing, weighingOf, sumTo}
+use Rattle.records.specs.Records.{noWeighing, sumTo}
 use Rattle.lines.specs.declared.Value.{Value}
 use Rattle.lines.specs.declared.Value.the-variants.{Known, Missing}
 use Rattle.lines.specs.declared.Lines.{Lines}
@@ -23,7 +22,7 @@ use Rattle.certs.specs.declared.Chosen.{Chosen}
 use Rattle.certs.specs.declared.comparison.Way.the-variants.{Below, Above, Same}
 use Rattle.certs.specs.Comparing.{holds}
 use Rattle.findings.specs.Grounds.{broken}
-use Rattle.findings.specs.Rules.{missing, moved, uneven, judged, ofKind, oneOfKind, lacking, certificateGrounds, siteGrounds, fieldGrounds, lineGrounds, weighingGrounds, groundOf, placesOf}
+use Rattle.findings.specs.Rules.{missing, moved, uneven, judged, ofKind, oneOfKind, lacking, certificateGrounds, lineGrounds, weighingGrounds, groundOf, placesOf}
 use Rattle.findings.specs.Listing.{brokenAt, findingAt, ruleFindings, findingsTo, findings, most, Worked}
 use Rattle.findings.proofs.Filling.{rising}
 use Rattle.findings.proofs.Absent.{no-volume, no-moisture, no-gas, no-velocity, no-flow}

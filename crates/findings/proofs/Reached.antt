@@ -1,7 +1,5 @@
 -- 98 findings are reached: a run in range without certificates, whose every point, segment and weighing breaks its rule.
-use Prim.Native.Nat.{ℕ, _<_}
 use mathlib.Core.Path.{_≡_, refl}
-use mathlib.Core.Bool.{true}
 use lib.IntN.{pos}
 use lib.ListN.{length, replicate, getD-replicate}
 use Rattle.readings.specs.Ranges.{within, signedWithin}
@@ -11,13 +9,12 @@ use Rattle.records.specs.declared.Segment.{Segment}
 use Rattle.records.specs.declared.Weighing.{Weighing}
 use Rattle.records.specs.declared.Run.{Run}
 use Rattle.records.specs.Records.{noPoint, noSegment, noWeighing, sumTo}
-use Rattle.records.specs.InRange.{PointOk, SegmentOk, WeighingOk, RunOk}
+use Rattle.records.specs.InRange.{RunOk}
 use Rattle.arith.specs.Rounding.{roundDiv}
-use Rattle.arith.specs.Root.{grown, floorRoot, nearestRoot}
-use Rattle.lines.specs.Promise.{unlessZero, addScaled}
-use Rattle.lines.specs.Metering.{time, meteredVolume, allowance, leakLoss, correctedVolume, meanOrifice, meterPressure, meterTemperature, dryVolume, waterVapor, moisture}
-use Rattle.lines.specs.Stack.{dryWeight, wetWeight, stackPressure, stackTemperature, pointRoot, meanRoot, densityRoot, velocity}
-use Rattle.lines.specs.Sampling.{nozzleArea, drawnGas, isokinetic, deduction, catch, concentration}
+use Rattle.lines.specs.Promise.{unlessZero}
+use Rattle.lines.specs.Metering.{time, meteredVolume, allowance, leakLoss, correctedVolume, dryVolume, moisture}
+use Rattle.lines.specs.Stack.{wetWeight, densityRoot, velocity}
+use Rattle.lines.specs.Sampling.{drawnGas, isokinetic, deduction, catch}
 use Rattle.lines.specs.Sheet.{metering, stack, sampling, lines}
 use Rattle.certs.specs.declared.Lookup.the-variants.{Nothing}
 use Rattle.certs.specs.declared.Chosen.{Chosen}

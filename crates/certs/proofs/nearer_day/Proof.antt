@@ -1,5 +1,4 @@
 -- `nearer_day` is `nearer`, side by side.
-use Rattle.certs.specs.Choosing.{nearer}
 use Rattle.certs.proofs.nearer_day.Statement.{statement}
 use Rattle.certs.proofs.nearer_day.Tie as tie
 

@@ -1,5 +1,4 @@
 -- `so_dated` is `soDated`, side by side.
-use Rattle.certs.specs.Choosing.{soDated}
 use Rattle.certs.proofs.so_dated.Statement.{statement}
 use Rattle.certs.proofs.so_dated.Tie as tie
 

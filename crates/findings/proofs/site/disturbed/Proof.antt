@@ -1,5 +1,4 @@
 -- `disturbed` is its definition; distances fit 16 bits and the bottom of a length is bounded, so their product fits.
-use Prim.Native.Nat.{_≤_}
 use native.Mathlib.Omega.{arith}
 use borrow.Author.Needs.{needs}
 use Rattle.findings.proofs.Products.{product-fits}

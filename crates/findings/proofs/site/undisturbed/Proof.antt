@@ -1,5 +1,4 @@
 -- `undisturbed` is its definition; distances fit 16 bits and the bottom of a length is bounded, so their product fits.
-use Prim.Native.Nat.{_≤_}
 use native.Mathlib.Omega.{arith}
 use borrow.Author.Tests.{le-leb, lt-leb}
 use borrow.Author.Needs.{needs}
