@@ -1,5 +1,5 @@
 -- When a comparison of two whole numbers holds.
-use Prim.Native.Nat.{ℕ}
+use Prim.Native.Nat.{ℕ, _+_, _-_}
 use mathlib.Core.Bool.{Bool, not}
 use lib.Dec.{ltb, eqb}
 use Rattle.certs.specs.declared.comparison.Way.{Way}
@@ -20,3 +20,7 @@ holds c = stands (c .way) (c .left) (c .right)
 -- the comparison of a with b
 abbrev pub compare : ℕ → Way → ℕ → Comparison
 compare a way b = record { left = a; way = way; right = b }
+
+-- how far apart two numbers are
+unfoldable pub distance : ℕ → ℕ → ℕ
+distance a b = a - b + (b - a)

@@ -1,5 +1,5 @@
 -- What the chosen certificates give the lines.
-use Prim.Native.Nat.{ℕ, _+_, _-_, _*_, min}
+use Prim.Native.Nat.{ℕ, _*_, min}
 use mathlib.Core.Bool.{cond}
 use Rattle.lines.specs.declared.Value.{Value}
 use Rattle.lines.specs.declared.Value.the-variants.{Known, Missing}
@@ -10,11 +10,7 @@ use Rattle.certs.specs.declared.Lookup.the-variants.{Found, Nothing}
 use Rattle.certs.specs.declared.Chosen.{Chosen}
 use Rattle.certs.specs.declared.comparison.Way.the-variants.{Above}
 use Rattle.certs.specs.declared.comparison.Comparison.{Comparison}
-use Rattle.certs.specs.Comparing.{holds, compare}
-
--- how far apart two numbers are
-unfoldable pub distance : ℕ → ℕ → ℕ
-distance a b = a - b + (b - a)
+use Rattle.certs.specs.Comparing.{holds, compare, distance}
 
 -- the after factor differs from the before factor by more than 5 percent of the before factor
 unfoldable pub factorMoved : ℕ → ℕ → Comparison

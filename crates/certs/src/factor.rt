@@ -2,29 +2,23 @@
 
 use crate::Chosen;
 use crate::Lookup;
+use crate::comparison;
 use crate::comparison::Comparison;
 use crate::comparison::Way;
 use lines::Diameters;
 use lines::Value;
 ghost use mathlib.Core.Path.{_≡_};
-ghost use Rattle.certs.specs.Factor.{distance, factorMoved, factor, factorOf, coefficientOf, diametersOf};
+ghost use Rattle.certs.specs.Factor.{factorMoved, factor, factorOf, coefficientOf, diametersOf};
 
 // 5 percent of the before factor: a difference is more where as many times it is more than the factor.
 const PARTS: u64 = 20;
-
-// How far apart two numbers are.
-pub fn distance(a: u64, b: u64) -> u64
-    ensures { λ r. ⌜ r ≡ distance a b ⌝ }
-{
-    if a < b { b - a } else { a - b }
-}
 
 // Whether the after factor differs from the before factor by more than 5 percent of the before factor.
 pub fn factor_moved(before: u16, after: u16) -> Comparison
     ensures { λ r. ⌜ r ≡ factorMoved before after ⌝ }
 {
     Comparison {
-        left: PARTS * distance(before as u64, after as u64),
+        left: PARTS * comparison::distance(before as u64, after as u64),
         way: Way::Above,
         right: before as u64,
     }

@@ -18,8 +18,8 @@ use Rattle.lines.specs.Sampling.{drawnGas, isokinetic, deduction, catch}
 use Rattle.lines.specs.Sheet.{metering, stack, sampling, lines}
 use Rattle.certs.specs.declared.Lookup.the-variants.{Nothing}
 use Rattle.certs.specs.declared.Chosen.{Chosen}
-use Rattle.certs.specs.Comparing.{holds}
-use Rattle.certs.specs.Factor.{distance, factorOf, coefficientOf, diametersOf}
+use Rattle.certs.specs.Comparing.{holds, distance}
+use Rattle.certs.specs.Factor.{factorOf, coefficientOf, diametersOf}
 use Rattle.findings.specs.Grounds.{broken}
 use Rattle.findings.specs.Rules.{missing, moved, uneven, diameter, halfDiameter, undisturbed, minimumPoints, nextGrid, nextAllowed, judged, ofKind, certificateGrounds, siteGrounds, fieldGrounds, lineGrounds, weighingGrounds, groundOf, placesOf}
 use Rattle.findings.specs.Listing.{brokenAt, ruleFindings, findingsTo, findings, linesFor, findingsFor, most}

@@ -1,7 +1,7 @@
 -- The starred values, each by computation.
 use mathlib.Core.Path.{refl}
-use Rattle.certs.specs.Comparing.{holds}
-use Rattle.certs.specs.Factor.{distance, factorMoved, factor}
+use Rattle.certs.specs.Comparing.{holds, distance}
+use Rattle.certs.specs.Factor.{factorMoved, factor}
 use Rattle.findings.specs.Grounds.{broken}
 use Rattle.findings.specs.Rules.{moved, judged, lineGrounds}
 use Rattle.findings.specs.Starred.{Each, starredFactors, FactorStands, starredIsokinetic, IsokineticStands}

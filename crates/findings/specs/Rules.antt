@@ -23,8 +23,8 @@ use Rattle.certs.specs.declared.Lookup.the-variants.{Found, Nothing}
 use Rattle.certs.specs.declared.Chosen.{Chosen}
 use Rattle.certs.specs.declared.comparison.Way.{Way}
 use Rattle.certs.specs.declared.comparison.Way.the-variants.{Below, Above, Same, Differs}
-use Rattle.certs.specs.Comparing.{compare}
-use Rattle.certs.specs.Factor.{distance, factorMoved}
+use Rattle.certs.specs.Comparing.{compare, distance}
+use Rattle.certs.specs.Factor.{factorMoved}
 use Rattle.findings.specs.declared.ground.Ground.{Ground}
 use Rattle.findings.specs.declared.ground.Ground.the-variants.{Silent, NoCertificate, Compared, Either, SignedBelow}
 use Rattle.findings.specs.declared.site.Length.{Length}

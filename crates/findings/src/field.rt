@@ -6,7 +6,6 @@ use certs::comparison::Comparison;
 use certs::comparison::Way;
 use records::Point;
 use records::Segment;
-use records::Weighing;
 ghost use mathlib.Core.Path.{_≡_};
 ghost use Prim.Native.Nat.{_≤_};
 ghost use lib.ListN.{getD};

@@ -38,7 +38,7 @@ pub const MOST: usize = 98;
 // A run's findings in order, and behind them nothing but zeros.
 pub struct Findings {
     pub count: usize,
-    pub list: [Finding; 98],
+    pub list: [Finding; MOST],
 }
 
 // Whether a rule is broken at one of its places, counted from 0.

@@ -1,5 +1,6 @@
-// The table of the rules: what each goes by, of how many places it speaks, its class, and its number for a place.
+// The table of the rules: what each goes by, of how many places it speaks, and the place and the class of its findings.
 
+use crate::Finding;
 use crate::certificates;
 use crate::field;
 use crate::ground::Ground;
@@ -19,6 +20,7 @@ ghost use Rattle.findings.specs.Rules.{fieldGround, lineGround, groundOf
 // How many rules there are.
 pub const RULES: u8 = 20;
 
+// Rules 10 and 11 of a run.
 fn field_ground_of(run: Run, metering: Metering, rule: u8, i: usize) -> Ground
     requires { ⌜ OfField i (metering .time) (metering .volume) rule ⌝ }
     ensures { λ r. ⌜ r ≡ fieldGround (pointOf run i) (segmentOf run i) (metering .time) (metering .volume) rule ⌝ }
@@ -28,6 +30,7 @@ fn field_ground_of(run: Run, metering: Metering, rule: u8, i: usize) -> Ground
     field::ground_of(points, segments, i, metering.time, metering.volume, rule)
 }
 
+// Rules 12 to 16 of a run.
 fn line_ground_of(lines: Lines, rule: u8) -> Ground
     requires { ⌜ (12 ≤ rule) × (rule ≤ 16) ⌝ }
     ensures { λ r. ⌜ r ≡ lineGround (lines .metering .corrected) (lines .metering .dry) (lines .stack .velocity) (lines .sampling .isokinetic) rule ⌝ }
@@ -91,7 +94,7 @@ pub fn class(rule: u8) -> u8
     ensures { λ r. ⌜ r ≡ classOf rule ⌝ }
 {
     match rule {
-        5 | 11 => 2,
-        _ => 1,
+        5 | 11 => Finding::NOTE,
+        _ => Finding::FAULT,
     }
 }

@@ -10,11 +10,33 @@ ghost use mathlib.Core.Path.{_≡_};
 ghost use Prim.Native.Nat.{_≤_};
 ghost use Rattle.findings.specs.Rules.{diameter, halfDiameter, narrow, disturbed, undisturbed, wide, minimumPoints, grids, nextGrid, nextAllowed, wrongPoints, siteGround, IsLength};
 
-// The least diameter, 0.1 in.
+// The least diameter, and the one above which more points are needed, 0.1 in.
 const LEAST_DIAMETER: u64 = 120;
 
-// A diameter above this needs more points, 0.1 in.
 const WIDE_DIAMETER: u64 = 240;
+
+// How near the last disturbance may be, in diameters.
+const NEAREST_LAST: u64 = 2;
+
+// From where on a site is undisturbed, in diameters from the last disturbance and to the next.
+const FAR_LAST: u64 = 8;
+
+const FAR_NEXT: u64 = 2;
+
+// The least numbers of points: at an undisturbed site above 24 in, otherwise by shape, and short of that by the house rule.
+pub struct LeastPoints;
+
+impl LeastPoints {
+    pub const WIDE: u64 = 12;
+
+    pub const ROUND: u64 = 8;
+
+    pub const RECTANGULAR: u64 = 9;
+
+    pub const DISTURBED_ROUND: u64 = 24;
+
+    pub const DISTURBED_RECTANGULAR: u64 = 25;
+}
 
 // A length as a fraction, over / under, 0.1 in.
 pub struct Length {
@@ -85,7 +107,7 @@ fn disturbed(site: Site) -> Ground
         Comparison {
             left: site.last as u64 * d.under,
             way: Way::Below,
-            right: 2 * d.over,
+            right: NEAREST_LAST * d.over,
         },
     )
 }
@@ -95,10 +117,10 @@ fn undisturbed(site: Site) -> bool
     ensures { λ r. ⌜ r ≡ undisturbed site ⌝ }
 {
     let d = diameter(site);
-    if site.last as u64 * d.under < 8 * d.over {
+    if site.last as u64 * d.under < FAR_LAST * d.over {
         return false;
     }
-    2 * d.over <= site.next as u64 * d.under
+    FAR_NEXT * d.over <= site.next as u64 * d.under
 }
 
 // Above 24 in: 24 in itself is not.
@@ -115,12 +137,20 @@ pub fn minimum_points(site: Site) -> u64
 {
     let round = site.shape == Shape::ROUND;
     if !undisturbed(site) {
-        return if round { 24 } else { 25 };
+        return if round {
+            LeastPoints::DISTURBED_ROUND
+        } else {
+            LeastPoints::DISTURBED_RECTANGULAR
+        };
     }
     if wide(site) {
-        return 12;
+        return LeastPoints::WIDE;
     }
-    if round { 8 } else { 9 }
+    if round {
+        LeastPoints::ROUND
+    } else {
+        LeastPoints::RECTANGULAR
+    }
 }
 
 // The numbers of points of a rectangular stack, the largest last.

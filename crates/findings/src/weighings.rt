@@ -1,9 +1,9 @@
 // Rules 17 to 20: the weighings and what they catch.
 
 use crate::ground::Ground;
+use certs::comparison;
 use certs::comparison::Comparison;
 use certs::comparison::Way;
-use certs::factor;
 use lines::Sampling;
 use records::Weighing;
 ghost use mathlib.Core.Path.{_≡_};
@@ -29,7 +29,7 @@ fn unsteady(weighing: Weighing) -> Ground
     ensures { λ r. ⌜ r ≡ unsteady weighing ⌝ }
 {
     Ground::Compared(Comparison {
-        left: factor::distance(weighing.first as u64, weighing.second as u64),
+        left: comparison::distance(weighing.first as u64, weighing.second as u64),
         way: Way::Above,
         right: GREATEST_DIFFERENCE,
     })

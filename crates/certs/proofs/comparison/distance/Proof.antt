@@ -1,9 +1,9 @@
 -- `distance` subtracts the lower number from the higher one, and the other difference of the definition is 0.
 use native.Mathlib.Omega.{arith}
-use Rattle.certs.specs.Factor.{distance}
+use Rattle.certs.specs.Comparing.{distance}
 use borrow.Author.Needs.{needs}
-use Rattle.certs.proofs.factor.distance.Statement.{statement}
-use Rattle.certs.proofs.factor.distance.Tie as tie
+use Rattle.certs.proofs.comparison.distance.Statement.{statement}
+use Rattle.certs.proofs.comparison.distance.Tie as tie
 
 sub-result : tie.Need-sub-result
 sub-result c = search needs
