@@ -1,0 +1,20 @@
+-- `distance` subtracts the lower number from the higher one, and the other difference of the definition is 0.
+use native.Mathlib.Omega.{arith}
+use Rattle.certs.specs.Comparing.{distance}
+use borrow.Author.Needs.{needs}
+use Rattle.certs.proofs.comparison.distance.Statement.{statement}
+use Rattle.certs.proofs.comparison.distance.Tie as tie
+
+sub-result : tie.Need-sub-result
+sub-result c = search needs
+
+returns : tie.Need-returns
+unfolding distance
+returns c = omega arith
+
+returns-2 : tie.Need-returns-2
+unfolding distance
+returns-2 c = omega arith
+
+pub distance-spec : {M : Type 1} → statement M
+distance-spec = tie.close (tie.spec sub-result returns returns-2)

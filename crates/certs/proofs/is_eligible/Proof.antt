@@ -1,0 +1,31 @@
+-- `is_eligible` is `eligible`: each early answer is the first test that fails.
+use borrow.Author.Needs.{needs}
+use borrow.Author.Tests.{eq-eqb, ne-eqb, not-true, not-false}
+use Rattle.certs.specs.Choosing.{eligible}
+use Rattle.certs.proofs.is_eligible.Statement.{statement}
+use Rattle.certs.proofs.is_eligible.Tie as tie
+
+returns : tie.Need-returns
+unfolding eligible
+returns c = rw (ne-eqb _ _ (c .if1 .taken))
+
+same-requires : tie.Need-same-requires
+same-requires c κs = search needs
+
+returns-2 : tie.Need-returns-2
+unfolding eligible
+returns-2 c =
+    rw (eq-eqb _ _ (c .before .before .if1 .left), ← c .before .same .ensures, not-true (c .before .same .result) (c .if2 .taken))
+
+so-dated-requires : tie.Need-so-dated-requires
+so-dated-requires c κs = search needs
+
+returns-3 : tie.Need-returns-3
+unfolding eligible
+returns-3 c =
+    rw (eq-eqb _ _ (c .before .before .before .if1 .left), ← c .before .before .same .ensures, not-false (c .before .before .same .result) (c .before .if2 .left))
+    (c .so-dated .ensures)
+
+pub is-eligible-spec : {M : Type 1} → statement M
+is-eligible-spec =
+    tie.close (tie.spec returns same-requires returns-2 so-dated-requires returns-3)

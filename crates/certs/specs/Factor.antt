@@ -1,0 +1,47 @@
+-- What the chosen certificates give the lines.
+use Prim.Native.Nat.{ℕ, _*_, min}
+use mathlib.Core.Bool.{cond}
+use Rattle.lines.specs.declared.Value.{Value}
+use Rattle.lines.specs.declared.Value.the-variants.{Known, Missing}
+use Rattle.lines.specs.declared.Diameters.{Diameters}
+use Rattle.lines.specs.declared.Diameters.the-variants.{Measured, Unknown}
+use Rattle.certs.specs.declared.Lookup.{Lookup}
+use Rattle.certs.specs.declared.Lookup.the-variants.{Found, Nothing}
+use Rattle.certs.specs.declared.Chosen.{Chosen}
+use Rattle.certs.specs.declared.comparison.Way.the-variants.{Above}
+use Rattle.certs.specs.declared.comparison.Comparison.{Comparison}
+use Rattle.certs.specs.Comparing.{holds, compare, distance}
+
+-- the after factor differs from the before factor by more than 5 percent of the before factor
+unfoldable pub factorMoved : ℕ → ℕ → Comparison
+factorMoved before after = compare (20 * distance before after) Above before
+
+-- Y from a before factor and an after factor: the lower of the two where the factor moved, otherwise the before factor
+unfoldable pub factor : ℕ → ℕ → ℕ
+factor before after = cond (holds (factorMoved before after)) (min before after) before
+
+-- Y from what was found
+abbrev pub factorFrom : Lookup → Lookup → Value
+factorFrom Nothing after = Missing
+factorFrom (Found b) Nothing = Known (b .first)
+factorFrom (Found b) (Found a) = Known (factor (b .first) (a .first))
+
+-- The factor Y: missing without a before certificate
+unfoldable pub factorOf : Chosen → Value
+factorOf ch = factorFrom (ch .before) (ch .after)
+
+abbrev pub firstValue : Lookup → Value
+firstValue Nothing = Missing
+firstValue (Found c) = Known (c .first)
+
+-- The coefficient Cp: missing without a pitot certificate
+unfoldable pub coefficientOf : Chosen → Value
+coefficientOf ch = firstValue (ch .pitot)
+
+abbrev pub threeValues : Lookup → Diameters
+threeValues Nothing = Unknown
+threeValues (Found c) = Measured (c .first) (c .second) (c .third)
+
+-- The nozzle's three diameters: unknown without a nozzle certificate
+unfoldable pub diametersOf : Chosen → Diameters
+diametersOf ch = threeValues (ch .nozzle)

@@ -1,0 +1,120 @@
+// Choosing certificates: by kind, maker and serial, the latest dated on or before the run's day, or the earliest dated later.
+// Everything above reaches a job's certificates only through `chosen`. Relies on the records and their comparison.
+
+pub mod comparison;
+pub mod factor;
+
+use records::Certificate;
+use records::Identity;
+use records::Run;
+ghost use mathlib.Core.Path.{_≡_};
+ghost use Prim.Native.Nat.{_≤_};
+ghost use Rattle.certs.specs.Choosing.{soDated, nearer, eligible, keep, certificateOf, chosen, chosenFor};
+
+// What a certificate is of.
+pub struct Kind;
+
+impl Kind {
+    pub const METER: u8 = 1;
+
+    pub const PITOT: u8 = 2;
+
+    pub const NOZZLE: u8 = 3;
+}
+
+// What a search for a certificate answers.
+pub enum Lookup {
+    Found(Certificate),
+    Nothing,
+}
+
+// The certificates that a run is worked with: of its meter before and after, of its pitot tube and of its nozzle before.
+pub struct Chosen {
+    pub before: Lookup,
+    pub after: Lookup,
+    pub pitot: Lookup,
+    pub nozzle: Lookup,
+}
+
+// Whether a certificate is dated on the asked side of the run's day. The run's own day counts as before.
+fn so_dated(day: u16, dated: u16, after: bool) -> bool
+    ensures { λ r. ⌜ r ≡ soDated after day dated ⌝ }
+{
+    if after {
+        return day < dated;
+    }
+    dated <= day
+}
+
+// Whether of two days on the asked side the second is nearer the run.
+fn nearer_day(first: u16, second: u16, after: bool) -> bool
+    ensures { λ r. ⌜ r ≡ nearer after first second ⌝ }
+{
+    if after {
+        return second < first;
+    }
+    first < second
+}
+
+// Whether a certificate is of the asked kind, maker and serial, and so dated.
+fn is_eligible(c: Certificate, kind: u8, identity: Identity, day: u16, after: bool) -> bool
+    ensures { λ r. ⌜ r ≡ eligible after kind identity day c ⌝ }
+{
+    if c.kind != kind {
+        return false;
+    }
+    if !c.identity.same(identity) {
+        return false;
+    }
+    so_dated(day, c.day, after)
+}
+
+// What is kept of the best so far and one certificate more.
+fn keep_nearer(best: Lookup, c: Certificate, after: bool) -> Lookup
+    ensures { λ r. ⌜ r ≡ keep after best c ⌝ }
+{
+    let Lookup::Found(b) = best else {
+        return Lookup::Found(c);
+    };
+    if nearer_day(b.day, c.day, after) {
+        return Lookup::Found(c);
+    }
+    best
+}
+
+// The certificate of that kind and identity that is dated nearest the day, on the asked side of it.
+pub fn choose(
+    held: [Certificate; 64],
+    count: usize,
+    kind: u8,
+    identity: Identity,
+    day: u16,
+    after: bool,
+) -> Lookup
+    requires { ⌜ count ≤ 64 ⌝ }
+    ensures { λ r. ⌜ r ≡ chosen after kind identity day (certificateOf held) count ⌝ }
+{
+    let mut best = Lookup::Nothing;
+    let mut i = 0;
+    while i < count {
+        let c = held[i];
+        if is_eligible(c, kind, identity, day, after) {
+            best = keep_nearer(best, c, after);
+        }
+        i += 1;
+    }
+    best
+}
+
+// The certificates of a run, each found through `choose`.
+pub fn choose_all(held: [Certificate; 64], count: usize, run: Run) -> Chosen
+    requires { ⌜ count ≤ 64 ⌝ }
+    ensures { λ r. ⌜ r ≡ chosenFor (certificateOf held) count run ⌝ }
+{
+    Chosen {
+        before: choose(held, count, Kind::METER, run.meter, run.day, false),
+        after: choose(held, count, Kind::METER, run.meter, run.day, true),
+        pitot: choose(held, count, Kind::PITOT, run.pitot, run.day, false),
+        nozzle: choose(held, count, Kind::NOZZLE, run.nozzle, run.day, false),
+    }
+}

@@ -1,0 +1,114 @@
+-- Filling the list: one finding more, one place more, one rule more, and room for each.
+use Prim.Native.Nat.{ℕ, zero, suc, _+_, _-_, _≤_, _<_}
+use mathlib.Core.Path.{_≡_, refl, sym, _∙_, ap}
+use mathlib.Core.Bool.{Bool, true, false, cond}
+use mathlib.Core.List.{List, [], _∷_, _++_, append-assoc, append-nil}
+use mathlib.Core.Logic.{_⊎_, inl, inr}
+use native.Mathlib.Nat.{le-refl, le-trans, lt-of-lt-of-le, le-of-suc-le-suc, not-suc-le-zero, eq-or-lt-of-le}
+use native.Mathlib.Numerals.{add-one}
+use native.Mathlib.Omega.{arith}
+use lib.ListN.{length, replicate, set, length-append}
+use lib.Seq.{set-at, append-snoc}
+use Rattle.findings.specs.declared.Finding.{Finding}
+use Rattle.findings.specs.declared.Findings.{Findings}
+use Rattle.findings.specs.Listing.{findingAt, ruleFindings, findingsTo, most, noFinding, listed}
+
+-- the findings fs stand in the array xs, n of them, and zeros behind them
+pub record Stands (fs : List Finding) (n : ℕ) (xs : List Finding) : Type 0 where
+  pub count : n ≡ length fs
+  pub list : xs ≡ fs ++ replicate (most - length fs) noFinding
+
+pub stands-none : Stands [] 0 (replicate most noFinding)
+stands-none = record { count = refl; list = refl }
+
+pub stands-more : (fs : List Finding) (f : Finding) {n : ℕ} {xs : List Finding} → Stands fs n xs → length fs < most → Stands (fs ++ (f ∷ [])) (n + 1) (set xs n f)
+stands-more fs f {n} {xs} s room =
+    let longer : length (fs ++ (f ∷ [])) ≡ length fs + 1 = length-append fs (f ∷ []) in
+    let k : ℕ = 97 - length fs in
+    let here : most - length fs ≡ suc k = omega arith in
+    let behind : most - length (fs ++ (f ∷ [])) ≡ k = omega arith in
+    record {
+      count = omega (arith, s .count);
+      list = rw (s .list, here, behind, append-snoc) (set-at fs noFinding (replicate k noFinding) f n (sym (s .count)));
+    }
+
+pub stands-listed : {fs : List Finding} {n : ℕ} {xs : List Finding} → Stands fs n xs → _≡_ {A = Findings} (record { count = n; list = xs }) (listed fs)
+unfolding listed
+stands-listed s = λ i. record { count = s .count i; list = s .list i }
+
+-- a number that never falls from one step to the next
+pub rising : (f : ℕ → ℕ) → ((i : ℕ) → f i ≤ f (suc i)) → (i j : ℕ) → i ≤ j → f i ≤ f j
+rising f up zero zero l = le-refl (f zero)
+rising f up (suc i) zero l = absurd (not-suc-le-zero l)
+rising f up i (suc j) l = go (eq-or-lt-of-le l) (λ (h : i ≤ j). rising f up i j h)
+  where
+    go : (i ≡ suc j) ⊎ (i < suc j) → (i ≤ j → f i ≤ f j) → f i ≤ f (suc j)
+    go (inl e) below = rw e (le-refl (f (suc j)))
+    go (inr lt) below = le-trans (below (le-of-suc-le-suc lt)) (up j)
+
+module _ (isBroken : ℕ → ℕ → Bool) (places : ℕ → ℕ) where
+  -- one place more
+  pub found-more : (rule i : ℕ) {test : Bool} → test ≡ isBroken rule i → test ≡ true → ruleFindings (isBroken rule) rule (i + 1) ≡ ruleFindings (isBroken rule) rule i ++ (findingAt rule i ∷ [])
+  unfolding ruleFindings
+  found-more rule i t e = rw (add-one, ← t, e)
+
+  pub found-passed : (rule i : ℕ) {test : Bool} → test ≡ isBroken rule i → test ≡ false → ruleFindings (isBroken rule) rule (i + 1) ≡ ruleFindings (isBroken rule) rule i
+  unfolding ruleFindings
+  found-passed rule i t e = rw (add-one, ← t, e) (append-nil _)
+
+  pub found-none : (fs : List Finding) (rule : ℕ) → fs ++ ruleFindings (isBroken rule) rule 0 ≡ fs
+  unfolding ruleFindings
+  found-none fs rule = append-nil fs
+
+  -- one rule more
+  pub rule-more : (k : ℕ) → findingsTo isBroken places (k + 1) ≡ findingsTo isBroken places k ++ ruleFindings (isBroken (k + 1)) (k + 1) (places (k + 1))
+  unfolding findingsTo
+  rule-more k = ap (λ (n : ℕ). findingsTo isBroken places n) (add-one k)
+
+  pub rule-none : findingsTo isBroken places 0 ≡ []
+  unfolding findingsTo
+  rule-none = refl
+
+  rule-rising : (rule i j : ℕ) → i ≤ j → length (ruleFindings (isBroken rule) rule i) ≤ length (ruleFindings (isBroken rule) rule j)
+  unfolding ruleFindings
+  rule-rising rule =
+      rising (λ i. length (ruleFindings (isBroken rule) rule i))
+      (λ i. omega (arith, length-append (ruleFindings (isBroken rule) rule i) (cond (isBroken rule i) (findingAt rule i ∷ []) [])))
+
+  rules-rising : (k m : ℕ) → k ≤ m → length (findingsTo isBroken places k) ≤ length (findingsTo isBroken places m)
+  unfolding findingsTo
+  rules-rising =
+      rising (λ k. length (findingsTo isBroken places k))
+      (λ k. omega (arith, length-append (findingsTo isBroken places k) (ruleFindings (isBroken (k + 1)) (k + 1) (places (k + 1)))))
+
+  -- where a rule is broken, the list is not yet as long as it will be
+  pub room : (k i : ℕ) {test : Bool} → k < 20 → i < places (k + 1) → test ≡ isBroken (k + 1) i → test ≡ true → length (findingsTo isBroken places k ++ ruleFindings (isBroken (k + 1)) (k + 1) i) < length (findingsTo isBroken places 20)
+  room k i rule-in place-in t e =
+      let fs : List Finding = findingsTo isBroken places k in
+      let now : List Finding = ruleFindings (isBroken (k + 1)) (k + 1) i in
+      let all : List Finding = ruleFindings (isBroken (k + 1)) (k + 1) (places (k + 1)) in
+      let more : length (ruleFindings (isBroken (k + 1)) (k + 1) (i + 1)) ≡ length now + 1 =
+      ap length (found-more (k + 1) i t e) ∙ length-append now (findingAt (k + 1) i ∷ []) in
+      let place-le : i + 1 ≤ places (k + 1) = omega arith in
+      let rule-le : k + 1 ≤ 20 = omega arith in
+      let next : length (findingsTo isBroken places (k + 1)) ≡ length fs + length all = ap length (rule-more k) ∙ length-append fs all in
+      omega (arith, length-append fs now, rule-rising (k + 1) _ _ place-le, rules-rising _ _ rule-le)
+
+  -- what stands in the list, through the loop over places and the loop over rules
+  pub stands-first : (k : ℕ) {n : ℕ} {xs : List Finding} → Stands (findingsTo isBroken places k) n xs → Stands (findingsTo isBroken places k ++ ruleFindings (isBroken (k + 1)) (k + 1) 0) n xs
+  stands-first k s = rw (found-none (findingsTo isBroken places k) (k + 1)) s
+
+  pub stands-room : (k i : ℕ) {n : ℕ} {xs : List Finding} {test : Bool} → length (findingsTo isBroken places 20) ≤ most → k < 20 → i < places (k + 1) → test ≡ isBroken (k + 1) i → test ≡ true → Stands (findingsTo isBroken places k ++ ruleFindings (isBroken (k + 1)) (k + 1) i) n xs → n < most
+  stands-room k i within rule-in place-in t e s =
+      rw (s .count) (lt-of-lt-of-le (room k i rule-in place-in t e) within)
+
+  pub stands-found : (k i : ℕ) {n : ℕ} {xs : List Finding} {test : Bool} {f : Finding} → length (findingsTo isBroken places 20) ≤ most → k < 20 → i < places (k + 1) → test ≡ isBroken (k + 1) i → test ≡ true → f ≡ findingAt (k + 1) i → Stands (findingsTo isBroken places k ++ ruleFindings (isBroken (k + 1)) (k + 1) i) n xs → Stands (findingsTo isBroken places k ++ ruleFindings (isBroken (k + 1)) (k + 1) (i + 1)) (n + 1) (set xs n f)
+  stands-found k i within rule-in place-in t e is s =
+      rw (found-more (k + 1) i t e, is, ← append-assoc)
+      (stands-more _ (findingAt (k + 1) i) s (lt-of-lt-of-le (room k i rule-in place-in t e) within))
+
+  pub stands-passed : (k i : ℕ) {n : ℕ} {xs : List Finding} {test : Bool} → test ≡ isBroken (k + 1) i → test ≡ false → Stands (findingsTo isBroken places k ++ ruleFindings (isBroken (k + 1)) (k + 1) i) n xs → Stands (findingsTo isBroken places k ++ ruleFindings (isBroken (k + 1)) (k + 1) (i + 1)) n xs
+  stands-passed k i t e s = rw (found-passed (k + 1) i t e) s
+
+  pub stands-rule : (k i : ℕ) {n : ℕ} {xs : List Finding} → i ≡ places (k + 1) → Stands (findingsTo isBroken places k ++ ruleFindings (isBroken (k + 1)) (k + 1) i) n xs → Stands (findingsTo isBroken places (k + 1)) n xs
+  stands-rule k i all s = rw (rule-more k, ← all) s

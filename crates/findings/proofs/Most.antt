@@ -1,0 +1,224 @@
+-- A run has at most 98 findings: of 3 and 6, of 4 and 5, and of 12 to 16 at most one can be broken, and with eight weighings not both 18 and 19.
+use Prim.Native.Nat.{ℕ, zero, suc, _+_, _≤_, _<_}
+use mathlib.Core.Path.{_≡_, refl, _∙_, ap}
+use mathlib.Core.Bool.{Bool, true, false, cond}
+use mathlib.Core.List.{List, [], _∷_}
+use native.Mathlib.Nat.{le-refl}
+use native.Mathlib.Decide.{decLe}
+use native.Mathlib.Omega.{arith}
+use borrow.Author.Tests.{eq-eqb, eqb-true, le-ltb, ltb-true}
+use lib.Dec.{eqb, ltb}
+use lib.ListN.{length, getD, length-append}
+use Rattle.readings.proofs.Ranges.{within-least, within-greatest}
+use Rattle.records.specs.declared.Weighing.{Weighing}
+use Rattle.records.specs.declared.Run.{Run}
+use Rattle.records.specs.Records.{noWeighing, sumTo}
+use Rattle.lines.specs.declared.Value.{Value}
+use Rattle.lines.specs.declared.Value.the-variants.{Known, Missing}
+use Rattle.lines.specs.declared.Lines.{Lines}
+use Rattle.certs.specs.declared.Lookup.{Lookup}
+use Rattle.certs.specs.declared.Lookup.the-variants.{Found, Nothing}
+use Rattle.certs.specs.declared.Chosen.{Chosen}
+use Rattle.certs.specs.declared.comparison.Way.the-variants.{Below, Above, Same}
+use Rattle.certs.specs.Comparing.{holds}
+use Rattle.findings.specs.Grounds.{broken}
+use Rattle.findings.specs.Rules.{missing, moved, uneven, judged, ofKind, oneOfKind, lacking, certificateGrounds, lineGrounds, weighingGrounds, groundOf, placesOf}
+use Rattle.findings.specs.Listing.{brokenAt, findingAt, ruleFindings, findingsTo, findings, most, Worked}
+use Rattle.findings.proofs.Filling.{rising}
+use Rattle.findings.proofs.Absent.{no-volume, no-moisture, no-gas, no-velocity, no-flow}
+
+-- one where a rule is broken, and otherwise nothing
+abbrev bit : Bool → ℕ
+bit true = 1
+bit false = 0
+
+bit-le : (t : Bool) → bit t ≤ 1
+bit-le true = le-refl 1
+bit-le false = omega arith
+
+-- how many findings a rule has
+module _ (isBroken : ℕ → ℕ → Bool) (places : ℕ → ℕ) where
+  many : ℕ → ℕ
+  many rule = length (ruleFindings (isBroken rule) rule (places rule))
+
+  one-more : (rule i : ℕ) → length (cond (isBroken rule i) (findingAt rule i ∷ []) []) ≡ bit (isBroken rule i)
+  one-more rule i = go (isBroken rule i)
+    where
+      go : (t : Bool) → length (cond t (findingAt rule i ∷ []) []) ≡ bit t
+      go true = refl
+      go false = refl
+
+  -- no more than it has places
+  upto : (rule n : ℕ) → length (ruleFindings (isBroken rule) rule n) ≤ n
+  unfolding ruleFindings
+  upto rule zero = le-refl 0
+  upto rule (suc n) =
+      let more = length-append (ruleFindings (isBroken rule) rule n) (cond (isBroken rule n) (findingAt rule n ∷ []) []) in
+      omega (arith, more, one-more rule n, bit-le (isBroken rule n), upto rule n)
+
+  many-le : (rule : ℕ) → many rule ≤ places rule
+  unfolding many
+  many-le rule = upto rule (places rule)
+
+  -- a rule about the whole run
+  many-whole : (rule : ℕ) → places rule ≡ 1 → many rule ≡ bit (isBroken rule 0)
+  unfolding many ruleFindings
+  many-whole rule e = rw e (one-more rule 0)
+
+  -- all of them
+  many-all : (k : ℕ) → length (findingsTo isBroken places k) ≡ sumTo (λ i. many (i + 1)) k
+  unfolding many findingsTo sumTo
+  many-all zero = refl
+  many-all (suc k) =
+      length-append (findingsTo isBroken places k) (ruleFindings (isBroken (k + 1)) (k + 1) (places (k + 1)))
+      ∙ ap (λ (n : ℕ). n + length (ruleFindings (isBroken (k + 1)) (k + 1) (places (k + 1)))) (many-all k)
+
+-- 3 and 6: without a nozzle certificate there is no diameter to compare
+nozzle-once : (n : Lookup) → bit (broken (missing n)) + bit (broken (uneven n)) ≤ 1
+unfolding broken missing uneven
+nozzle-once Nothing = omega arith
+nozzle-once (Found c) = omega (arith, bit-le (broken (uneven (Found c))))
+
+-- 4 and 5: without an after certificate the factor did not move
+factor-once : (b a : Lookup) → bit (broken (missing a)) + bit (broken (moved b a)) ≤ 1
+unfolding broken missing moved
+factor-once Nothing Nothing = omega arith
+factor-once (Found b) Nothing = omega arith
+factor-once b (Found a) = omega (arith, bit-le (broken (moved b (Found a))))
+
+-- 12 to 16: each speaks of a line that the next needs
+none-known : Known 0 ≡ Missing → ⊥
+none-known e = let z : _≡_ {A = ℕ} 0 1 = cc in omega arith
+
+zero-once : (v : Value) (rest : ℕ) → rest ≤ 1 → (v ≡ Known 0 → rest ≡ 0) → bit (broken (judged v Same 0)) + rest ≤ 1
+unfolding broken judged holds
+zero-once Missing rest le none = omega arith
+zero-once (Known n) rest le none = go (eqb n 0) (λ e. none (ap Known (eqb-true n 0 e)))
+  where
+    go : (t : Bool) → (t ≡ true → rest ≡ 0) → bit t + rest ≤ 1
+    go true h = omega (arith, h refl)
+    go false h = omega arith
+
+zero-missing : (v : Value) (rest : ℕ) → v ≡ Missing → rest ≡ 0 → bit (broken (judged v Same 0)) + rest ≡ 0
+unfolding broken judged
+zero-missing v rest e none = rw e (omega arith)
+
+-- the percent isokinetic is not below 9,000 and above 11,000
+percent-once : (v : Value) → bit (broken (judged v Below 9000)) + bit (broken (judged v Above 11000)) ≤ 1
+unfolding broken judged holds
+percent-once Missing = omega arith
+percent-once (Known n) = go (ltb n 9000) refl
+  where
+    go : (t : Bool) → ltb n 9000 ≡ t → bit t + bit (ltb 11000 n) ≤ 1
+    go true e =
+        let low : n < 9000 = ltb-true _ _ e in
+        let not-high : n ≤ 11000 = omega arith in
+        rw (le-ltb 11000 n not-high) (omega arith)
+    go false e = omega (arith, bit-le (ltb 11000 n))
+
+percent-missing : (v : Value) → v ≡ Missing → bit (broken (judged v Below 9000)) + bit (broken (judged v Above 11000)) ≡ 0
+unfolding broken judged
+percent-missing v e = rw e (omega arith)
+
+-- 18 and 19: a weighing is of a filter or of a rinse
+kind-some : (kind : ℕ) (ws : List Weighing) (n : ℕ) → 1 ≤ n → getD ws 0 noWeighing .kind ≡ kind → 1 ≤ ofKind kind ws n
+unfolding ofKind sumTo
+kind-some kind ws n some e =
+    let one : 0 + oneOfKind kind (getD ws 0 noWeighing) ≡ 1 = rw (eq-eqb _ _ e) in
+    let up : ofKind kind ws 1 ≤ ofKind kind ws n = rising (λ m. ofKind kind ws m) (λ m. omega arith) 1 n some in
+    omega arith
+
+not-lacking : (kind : ℕ) (ws : List Weighing) (n : ℕ) → 1 ≤ ofKind kind ws n → broken (lacking kind ws n) ≡ false
+unfolding broken holds
+not-lacking kind ws n h = le-ltb _ _ h
+
+weighed-once : (ws : List Weighing) (n many : ℕ) → n ≤ 8 → many ≤ n → ((i : ℕ) → i < n → (1 ≤ getD ws i noWeighing .kind) × (getD ws i noWeighing .kind ≤ 2)) → many + bit (broken (lacking 1 ws n)) + bit (broken (lacking 2 ws n)) ≤ 9
+weighed-once ws n many few le kinds = go (decLe 1 n)
+  where
+    first : ℕ
+    first = getD ws 0 noWeighing .kind
+
+    filter : 1 ≤ n → first ≡ 1 → many + bit (broken (lacking 1 ws n)) + bit (broken (lacking 2 ws n)) ≤ 9
+    filter some e =
+        rw (not-lacking 1 ws n (kind-some 1 ws n some e)) (omega (arith, bit-le (broken (lacking 2 ws n))))
+
+    rinse : 1 ≤ n → first ≡ 2 → many + bit (broken (lacking 1 ws n)) + bit (broken (lacking 2 ws n)) ≤ 9
+    rinse some e =
+        rw (not-lacking 2 ws n (kind-some 2 ws n some e)) (omega (arith, bit-le (broken (lacking 1 ws n))))
+
+    either : 1 ≤ n → Dec (first ≤ 1) → (1 ≤ first) × (first ≤ 2) → many + bit (broken (lacking 1 ws n)) + bit (broken (lacking 2 ws n)) ≤ 9
+    either some (yes low) range = filter some (omega arith)
+    either some (no high) range = rinse some (omega arith)
+
+    go : Dec (1 ≤ n) → many + bit (broken (lacking 1 ws n)) + bit (broken (lacking 2 ws n)) ≤ 9
+    go (yes some) = either some (decLe first 1) (kinds 0 some)
+    go (no none) = omega (arith, bit-le (broken (lacking 1 ws n)), bit-le (broken (lacking 2 ws n)))
+
+module _ (r : Run) (ch : Chosen) (l : Lines) (w : Worked r ch l) where
+  -- rules 12 to 16 together
+  lines-once : bit (brokenAt r ch l 12 0) + (bit (brokenAt r ch l 13 0) + (bit (brokenAt r ch l 14 0) + (bit (brokenAt r ch l 15 0) + bit (brokenAt r ch l 16 0)))) ≤ 1
+  unfolding brokenAt groundOf lineGrounds
+  lines-once =
+      zero-once _ _ (zero-once _ _ (zero-once _ _ (percent-once _)
+      (λ e. percent-missing _ (no-flow r ch l (w .lines) e)))
+      (λ e. after-velocity (no-gas r ch l (w .lines) e)))
+      (λ e. let zero-volume : l .metering .corrected ≡ 0 = cc in after-dry (no-volume r ch l (w .lines) zero-volume))
+    where
+      after-velocity : l .stack .velocity ≡ Missing → bit (broken (judged (l .stack .velocity) Same 0)) + (bit (broken (judged (l .sampling .isokinetic) Below 9000)) + bit (broken (judged (l .sampling .isokinetic) Above 11000))) ≡ 0
+      after-velocity e = zero-missing _ _ e (percent-missing _ (no-velocity r ch l (w .lines) e))
+
+      after-dry : l .metering .dry ≡ Missing → bit (broken (judged (l .metering .dry) Same 0)) + (bit (broken (judged (l .stack .velocity) Same 0)) + (bit (broken (judged (l .sampling .isokinetic) Below 9000)) + bit (broken (judged (l .sampling .isokinetic) Above 11000)))) ≡ 0
+      after-dry e = zero-missing _ _ e (after-velocity (no-moisture r ch l (w .lines) e))
+
+  -- how many findings rule number `rule` has
+  has : ℕ → ℕ
+  has rule = many (brokenAt r ch l) (placesOf (r .counts)) rule
+
+  has-le : (rule : ℕ) → has rule ≤ placesOf (r .counts) rule
+  unfolding has
+  has-le rule = many-le (brokenAt r ch l) (placesOf (r .counts)) rule
+
+  has-whole : (rule : ℕ) → placesOf (r .counts) rule ≡ 1 → has rule ≡ bit (brokenAt r ch l rule 0)
+  unfolding has
+  has-whole rule e = many-whole (brokenAt r ch l) (placesOf (r .counts)) rule e
+
+  three-and-six : has 3 + has 6 ≤ 1
+  unfolding placesOf brokenAt groundOf certificateGrounds
+  three-and-six = rw (has-whole 3 refl, has-whole 6 refl) (nozzle-once (ch .nozzle))
+
+  four-and-five : has 4 + has 5 ≤ 1
+  unfolding placesOf brokenAt groundOf certificateGrounds
+  four-and-five = rw (has-whole 4 refl, has-whole 5 refl) (factor-once (ch .before) (ch .after))
+
+  twelve-to-sixteen : has 12 + (has 13 + (has 14 + (has 15 + has 16))) ≤ 1
+  unfolding placesOf
+  twelve-to-sixteen = rw (has-whole 12 refl, has-whole 13 refl, has-whole 14 refl, has-whole 15 refl, has-whole 16 refl) lines-once
+
+  seventeen-to-nineteen : has 17 + has 18 + has 19 ≤ 9
+  unfolding placesOf brokenAt groundOf weighingGrounds
+  seventeen-to-nineteen =
+      rw (has-whole 18 refl, has-whole 19 refl)
+      (weighed-once (r .weighings) (r .counts .weighings) (has 17) (within-greatest 0 8 _ (w .ok .countOfWeighings)) (has-le 17)
+      (λ i inside.
+      let kind = w .ok .weighings i inside .kind in
+      (within-least 1 2 _ kind, within-greatest 1 2 _ kind)))
+
+  pub all-fit : length (findingsTo (brokenAt r ch l) (placesOf (r .counts)) 20) ≤ most
+  unfolding placesOf sumTo has
+  all-fit =
+      let points : r .counts .points ≤ 64 = within-greatest 1 64 _ (w .ok .countOfPoints) in
+      let segments : r .counts .segments ≤ 16 = within-greatest 1 16 _ (w .ok .countOfSegments) in
+      let ten : has 10 ≤ r .counts .points = has-le 10 in
+      let eleven : has 11 ≤ r .counts .segments = has-le 11 in
+      let one : has 1 ≤ 1 = has-le 1 in
+      let two : has 2 ≤ 1 = has-le 2 in
+      let seven : has 7 ≤ 1 = has-le 7 in
+      let eight : has 8 ≤ 1 = has-le 8 in
+      let nine : has 9 ≤ 1 = has-le 9 in
+      let twenty : has 20 ≤ 1 = has-le 20 in
+      omega (arith, many-all (brokenAt r ch l) (placesOf (r .counts)) 20, three-and-six, four-and-five, twelve-to-sixteen, seventeen-to-nineteen)
+
+  -- At most 98 findings
+  pub at-most : length (findings r ch l) ≤ most
+  unfolding findings
+  at-most = all-fit

@@ -1,0 +1,12 @@
+-- Products of readings of 16 bits and sums of two of them fit 64 bits with room to spare.
+use Prim.Native.Nat.{ℕ, _*_, _^_, _≤_, _<_}
+use native.Mathlib.Nat.{mul-le-mul}
+use native.Mathlib.Omega.{arith}
+use mir.Syntax.{w64}
+use mir.Val.{Fits}
+
+pub product-le : (a b : ℕ) → a < 2 ^ 16 → b ≤ 2 ^ 17 → a * b ≤ 65535 * 2 ^ 17
+product-le a b ha hb = let a-le : a ≤ 65535 = omega arith in mul-le-mul a-le hb
+
+pub product-fits : (a b : ℕ) → a < 2 ^ 16 → b ≤ 2 ^ 17 → Fits w64 (a * b)
+product-fits a b ha hb = omega (arith, product-le a b ha hb)

@@ -1,0 +1,141 @@
+-- The order of the list: by rule and then by place, so that none occurs twice; and the class of each finding.
+use Prim.Native.Nat.{ℕ, zero, suc, _+_, _≤_, _<_}
+use mathlib.Core.Path.{_≡_, refl, sym}
+use mathlib.Core.Bool.{Bool, true, false, cond, _||_, true≢false}
+use mathlib.Core.List.{List, [], _∷_, _++_, List·Memᴰ, List·Memᴰ·head, List·Memᴰ·tail, List·Memᴰ·not-nil, List·Memᴰ·append-cases, List·Memᴰ·eq-of-singleton}
+use mathlib.Core.Logic.{_⊎_, inl, inr, _↔_}
+use native.Mathlib.Nat.{not-suc-le-zero, le-of-suc-le-suc, le-of-lt, le-refl}
+use native.Mathlib.Decide.{decLt}
+use native.Mathlib.Omega.{arith}
+use borrow.Author.Tests.{eqb-true}
+use lib.Dec.{eqb}
+use lib.ListN.{length, getD}
+use Rattle.readings.specs.Ranges.{oneOf}
+use Rattle.records.specs.declared.Counts.{Counts}
+use Rattle.records.specs.declared.Run.{Run}
+use Rattle.lines.specs.declared.Lines.{Lines}
+use Rattle.certs.specs.declared.Chosen.{Chosen}
+use Rattle.findings.specs.declared.Finding.{Finding}
+use Rattle.findings.specs.Rules.{placesOf, placeOf, classOf}
+use Rattle.findings.specs.Listing.{brokenAt, findingAt, ruleFindings, findingsTo, findings, noFinding, Precedes}
+use Rattle.findings.proofs.Members.{at-index, OfRule, OfRules, rule-members, all-members}
+
+-- every finding stands before all that follow it
+abbrev Sorted : List Finding → Type 0
+Sorted [] = Unit {0}
+Sorted (f ∷ fs) = ((g : Finding) → List·Memᴰ g fs → Precedes f g) × Sorted fs
+
+-- two sorted lists, one before the other
+sorted-append : (fs gs : List Finding) → Sorted fs → Sorted gs → ((f g : Finding) → List·Memᴰ f fs → List·Memᴰ g gs → Precedes f g) → Sorted (fs ++ gs)
+sorted-append [] gs s t all = t
+sorted-append (f ∷ fs) gs (first, s) t all = (
+  (λ g m. here g (List·Memᴰ·append-cases fs m)),
+  sorted-append fs gs s t (λ f′ g mf mg. all f′ g (List·Memᴰ·tail mf) mg),
+)
+  where
+    here : (g : Finding) → List·Memᴰ g fs ⊎ List·Memᴰ g gs → Precedes f g
+    here g (inl m) = first g m
+    here g (inr m) = all f g (List·Memᴰ·head refl) m
+
+-- the place of a later point, segment or weighing is higher
+whole-run : (a b c : Bool) (p s w : ℕ) → (a || (b || (c || false))) ≡ false → cond a p (cond b s (cond c w 1)) ≡ 1
+whole-run true b c p s w e = absurd (true≢false e)
+whole-run false true c p s w e = absurd (true≢false e)
+whole-run false false true p s w e = absurd (true≢false e)
+whole-run false false false p s w e = refl
+
+place-rising : (n : Counts) (rule i j : ℕ) → i < j → j < placesOf n rule → placeOf rule i < placeOf rule j
+unfolding placesOf placeOf
+place-rising n rule i j l inside = go (oneOf (10 ∷ 11 ∷ 17 ∷ []) rule) refl
+  where
+    go : (t : Bool) → oneOf (10 ∷ 11 ∷ 17 ∷ []) rule ≡ t → cond t (i + 1) 0 < cond t (j + 1) 0
+    go true e = omega arith
+    go false e =
+        let one : placesOf n rule ≡ 1 = whole-run (eqb rule 10) (eqb rule 11) (eqb rule 17) _ _ _ e in
+        omega arith
+
+module _ (n : Counts) (isBroken : ℕ → ℕ → Bool) where
+  one-sorted : (t : Bool) (f : Finding) → Sorted (cond t (f ∷ []) [])
+  one-sorted true f = ((λ g m. absurd (List·Memᴰ·not-nil m)), tt)
+  one-sorted false f = tt
+
+  one-is : (t : Bool) (f g : Finding) → List·Memᴰ g (cond t (f ∷ []) []) → g ≡ f
+  one-is true f g m = List·Memᴰ·eq-of-singleton m
+  one-is false f g m = absurd (List·Memᴰ·not-nil m)
+
+  -- a rule's findings, by place
+  rule-sorted : (rule i : ℕ) → i ≤ placesOf n rule → Sorted (ruleFindings (isBroken rule) rule i)
+  unfolding ruleFindings findingAt
+  rule-sorted rule zero inside = tt
+  rule-sorted rule (suc i) inside =
+      sorted-append (ruleFindings (isBroken rule) rule i) (cond (isBroken rule i) (findingAt rule i ∷ []) [])
+      (rule-sorted rule i (le-of-lt inside))
+      (one-sorted (isBroken rule i) (findingAt rule i))
+      (λ f g mf mg.
+      let o : OfRule (isBroken rule) rule i f = rule-members (isBroken rule) rule i mf in
+      rw (o .is, one-is (isBroken rule i) (findingAt rule i) g mg)
+      (inr (refl, place-rising n rule (o .index) i (o .inside) inside)))
+
+  -- all findings, by rule and then by place
+  all-sorted : (k : ℕ) → Sorted (findingsTo isBroken (placesOf n) k)
+  unfolding findingsTo findingAt
+  all-sorted zero = tt
+  all-sorted (suc k) =
+      sorted-append (findingsTo isBroken (placesOf n) k) (ruleFindings (isBroken (k + 1)) (k + 1) (placesOf n (k + 1)))
+      (all-sorted k)
+      (rule-sorted (k + 1) (placesOf n (k + 1)) (le-refl (placesOf n (k + 1))))
+      (λ f g mf mg.
+      let o : OfRules isBroken (placesOf n) k f = all-members isBroken (placesOf n) k mf in
+      let p : OfRule (isBroken (k + 1)) (k + 1) (placesOf n (k + 1)) g = rule-members (isBroken (k + 1)) (k + 1) _ mg in
+      let earlier : o .rule < k + 1 = omega (arith, o .last) in
+      rw (o .of .is, p .is) (inl earlier))
+
+-- by index
+sorted-at : (fs : List Finding) → Sorted fs → (i j : ℕ) → i < j → j < length fs → Precedes (getD fs i noFinding) (getD fs j noFinding)
+sorted-at [] s i j l inside = absurd (not-suc-le-zero inside)
+sorted-at (f ∷ fs) s i zero l inside = absurd (not-suc-le-zero l)
+sorted-at (f ∷ fs) s zero (suc j) l inside = s .0 (getD fs j noFinding) (at-index fs j (le-of-suc-le-suc inside))
+sorted-at (f ∷ fs) s (suc i) (suc j) l inside = sorted-at fs (s .1) i j (le-of-suc-le-suc l) (le-of-suc-le-suc inside)
+
+-- The list is in order: by rule, and then by place
+pub in-order : (r : Run) (ch : Chosen) (l : Lines) (i j : ℕ) → i < j → j < length (findings r ch l) → Precedes (getD (findings r ch l) i noFinding) (getD (findings r ch l) j noFinding)
+unfolding findings
+in-order r ch l i j = sorted-at (findings r ch l) (all-sorted (r .counts) (brokenAt r ch l) 20) i j
+
+not-before-itself : (a b : Finding) → Precedes a b → a .rule ≡ b .rule → a .place ≡ b .place → ⊥
+not-before-itself a b (inl lower) rule place = omega arith
+not-before-itself a b (inr (same, lower)) rule place = omega arith
+
+-- Each finding occurs once
+pub each-once : (r : Run) (ch : Chosen) (l : Lines) (i j : ℕ) → i < length (findings r ch l) → j < length (findings r ch l) → getD (findings r ch l) i noFinding .rule ≡ getD (findings r ch l) j noFinding .rule → getD (findings r ch l) i noFinding .place ≡ getD (findings r ch l) j noFinding .place → i ≡ j
+each-once r ch l i j i-in j-in rule place = go (decLt i j) (decLt j i)
+  where
+    at : ℕ → Finding
+    at k = getD (findings r ch l) k noFinding
+
+    go : Dec (i < j) → Dec (j < i) → i ≡ j
+    go (yes lower) d = absurd (not-before-itself (at i) (at j) (in-order r ch l i j lower j-in) rule place)
+    go (no first) (yes higher) = absurd (not-before-itself (at j) (at i) (in-order r ch l j i higher i-in) (sym rule) (sym place))
+    go (no first) (no second) = omega arith
+
+-- the class of a rule is 2 for 5 and 11
+note-exactly : (rule : ℕ) → (classOf rule ≡ 2) ↔ ((rule ≡ 5) ⊎ (rule ≡ 11))
+unfolding classOf
+note-exactly rule = (notes (eqb rule 5) (eqb rule 11) refl refl, is-note)
+  where
+    notes : (a b : Bool) → eqb rule 5 ≡ a → eqb rule 11 ≡ b → _≡_ {A = ℕ} (cond (a || (b || false)) 2 1) 2 → (rule ≡ 5) ⊎ (rule ≡ 11)
+    notes true b e d is = inl (eqb-true _ _ e)
+    notes false true e d is = inr (eqb-true _ _ d)
+    notes false false e d is = absurd (omega arith)
+
+    is-note : (rule ≡ 5) ⊎ (rule ≡ 11) → classOf rule ≡ 2
+    is-note (inl e) = rw e
+    is-note (inr e) = rw e
+
+-- Notes are 5 and 11; the rest are faults
+pub class-exactly : (r : Run) (ch : Chosen) (l : Lines) (i : ℕ) → i < length (findings r ch l) → (getD (findings r ch l) i noFinding .class ≡ 2) ↔ ((getD (findings r ch l) i noFinding .rule ≡ 5) ⊎ (getD (findings r ch l) i noFinding .rule ≡ 11))
+unfolding findings findingAt
+class-exactly r ch l i inside =
+    let o : OfRules (brokenAt r ch l) (placesOf (r .counts)) 20 (getD (findings r ch l) i noFinding) =
+    all-members (brokenAt r ch l) (placesOf (r .counts)) 20 (at-index (findings r ch l) i inside) in
+    rw (o .of .is) (note-exactly (o .rule))

@@ -1,0 +1,91 @@
+-- The list of a run's findings: every rule at each of its places, in order, kept where it is broken.
+use Prim.Native.Nat.{ℕ, zero, suc, _+_, _-_, _≤_, _<_}
+use mathlib.Core.Path.{_≡_}
+use mathlib.Core.Bool.{Bool, true, cond, not, _&&_}
+use mathlib.Core.List.{List, [], _∷_, _++_}
+use mathlib.Core.Logic.{_⊎_}
+use lib.Dec.{eqb}
+use lib.ListN.{length, getD, replicate}
+use Rattle.records.specs.declared.Run.{Run}
+use Rattle.records.specs.InRange.{RunOk}
+use Rattle.lines.specs.declared.Lines.{Lines}
+use Rattle.lines.specs.Sheet.{lines}
+use Rattle.certs.specs.declared.Chosen.{Chosen}
+use Rattle.certs.specs.Factor.{factorOf, coefficientOf, diametersOf}
+use Rattle.findings.specs.declared.Finding.{Finding}
+use Rattle.findings.specs.declared.Findings.{Findings}
+use Rattle.findings.specs.Grounds.{broken}
+use Rattle.findings.specs.Rules.{groundOf, placesOf, placeOf, classOf}
+
+-- a rule is broken at its place i, counted from 0
+unfoldable pub brokenAt : Run → Chosen → Lines → ℕ → ℕ → Bool
+brokenAt r ch l rule i = broken (groundOf r ch l rule i)
+
+-- the finding of a rule at its place i
+unfoldable pub findingAt : ℕ → ℕ → Finding
+findingAt rule i = record { rule = rule; class = classOf rule; place = placeOf rule i }
+
+-- a rule's findings at its first n places, by place
+unfoldable pub ruleFindings : (ℕ → Bool) → ℕ → ℕ → List Finding
+ruleFindings isBroken rule zero = []
+ruleFindings isBroken rule (suc i) = ruleFindings isBroken rule i ++ cond (isBroken i) (findingAt rule i ∷ []) []
+
+-- the findings of rules 1 to k, by rule and then by place
+unfoldable pub findingsTo : (ℕ → ℕ → Bool) → (ℕ → ℕ) → ℕ → List Finding
+findingsTo isBroken places zero = []
+findingsTo isBroken places (suc k) =
+    findingsTo isBroken places k ++ ruleFindings (isBroken (k + 1)) (k + 1) (places (k + 1))
+
+-- The findings of a run
+unfoldable pub findings : Run → Chosen → Lines → List Finding
+findings r ch l = findingsTo (brokenAt r ch l) (placesOf (r .counts)) 20
+
+-- no finding is a fault
+unfoldable pub accepted : List Finding → Bool
+accepted [] = true
+accepted (f ∷ fs) = not (eqb (f .class) 1) && accepted fs
+
+-- the most findings that a run can have
+abbrev pub most : ℕ
+most = 98
+
+-- what stands behind the last finding
+abbrev pub noFinding : Finding
+noFinding = record { rule = 0; class = 0; place = 0 }
+
+-- a list of findings as it is handed over: how many, and zeros behind them
+unfoldable pub listed : List Finding → Findings
+listed fs = record { count = length fs; list = fs ++ replicate (most - length fs) noFinding }
+
+-- the lines of a run with its chosen certificates, and the findings that those lines give
+unfoldable pub linesFor : Run → Chosen → Lines
+linesFor r ch = lines r (factorOf ch) (coefficientOf ch) (diametersOf ch)
+
+unfoldable pub findingsFor : Run → Chosen → List Finding
+findingsFor r ch = findings r ch (linesFor r ch)
+
+-- a run in range, with the lines that it and its chosen certificates give
+pub record Worked (r : Run) (ch : Chosen) (l : Lines) : Type 0 where
+  pub ok : RunOk r
+  pub lines : l ≡ linesFor r ch
+
+-- What the list is promised to be, in the paper's words
+
+-- a run breaks a rule at a place: one of the twenty rules, at one of its places
+pub record Breaks (r : Run) (ch : Chosen) (l : Lines) (rule place : ℕ) : Type 0 where
+  pub first : 1 ≤ rule
+  pub last : rule ≤ 20
+  pub index : ℕ
+  pub inside : index < placesOf (r .counts) rule
+  pub there : place ≡ placeOf rule index
+  pub broken : brokenAt r ch l rule index ≡ true
+
+-- a list holds a finding of that rule at that place
+pub record Holds (fs : List Finding) (rule place : ℕ) : Type 0 where
+  pub index : ℕ
+  pub inside : index < length fs
+  pub same : (getD fs index noFinding .rule ≡ rule) × (getD fs index noFinding .place ≡ place)
+
+-- one finding stands before another: by rule, and then by place
+abbrev pub Precedes : Finding → Finding → Type 0
+Precedes a b = (a .rule < b .rule) ⊎ ((a .rule ≡ b .rule) × (a .place < b .place))
