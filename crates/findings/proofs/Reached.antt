@@ -12,9 +12,9 @@ use Rattle.records.specs.Records.{noPoint, noSegment, noWeighing, sumTo}
 use Rattle.records.specs.InRange.{RunOk}
 use Rattle.arith.specs.Rounding.{roundDiv}
 use Rattle.lines.specs.Promise.{unlessZero}
-use Rattle.lines.specs.Metering.{time, meteredVolume, allowance, leakLoss, correctedVolume, dryVolume, moisture}
+use Rattle.lines.specs.Metering.{time, meteredVolume, allowance, leakLoss, leakLosses, correctedVolume, dryVolume, moisture}
 use Rattle.lines.specs.Stack.{wetWeight, densityRoot, velocity}
-use Rattle.lines.specs.Sampling.{drawnGas, isokinetic, deduction, catch}
+use Rattle.lines.specs.Sampling.{drawnGas, isokinetic, deduction, finalWeights, tares, catch}
 use Rattle.lines.specs.Sheet.{metering, stack, sampling, lines}
 use Rattle.certs.specs.declared.Lookup.the-variants.{Nothing}
 use Rattle.certs.specs.declared.Chosen.{Chosen}
@@ -93,7 +93,7 @@ full-in-range =
     }
 
 full-findings : length (findingsFor fullRun noCertificates) ≡ most
-unfolding fullRun point segment filter noCertificates findingsFor linesFor findings findingsTo ruleFindings brokenAt broken groundOf placesOf certificateGrounds siteGrounds fieldGrounds lineGrounds weighingGrounds missing moved uneven diameter halfDiameter undisturbed minimumPoints nextGrid nextAllowed judged ofKind holds distance factorOf coefficientOf diametersOf lines metering stack sampling time meteredVolume allowance leakLoss correctedVolume dryVolume moisture wetWeight densityRoot velocity drawnGas isokinetic catch deduction roundDiv unlessZero sumTo
+unfolding fullRun point segment filter noCertificates findingsFor linesFor findings findingsTo ruleFindings brokenAt broken groundOf placesOf certificateGrounds siteGrounds fieldGrounds lineGrounds weighingGrounds missing moved uneven diameter halfDiameter undisturbed minimumPoints nextGrid nextAllowed judged ofKind holds distance factorOf coefficientOf diametersOf lines metering stack sampling time meteredVolume allowance leakLoss leakLosses correctedVolume dryVolume moisture wetWeight densityRoot velocity drawnGas isokinetic finalWeights tares catch deduction roundDiv unlessZero sumTo
 full-findings = refl
 
 -- Some run in range has 98

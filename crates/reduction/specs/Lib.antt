@@ -1,0 +1,2 @@
+-- A run of a job reduced, and which run has a number.
+pub mod Reducing

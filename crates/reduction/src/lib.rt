@@ -1,0 +1,77 @@
+// A run of a job reduced: its certificates are chosen, its sheet worked and its findings listed.
+// Relies on the reader's promise that what it reads is in range, and on the promises of the lines and the findings.
+
+use certs::factor;
+use fields::numbers;
+use findings::Findings;
+use job::Job;
+use lines::Sheet;
+use lines::sheets;
+use records::Certificate;
+use records::Run;
+ghost use mathlib.Core.Path.{_≡_};
+ghost use Prim.Native.Nat.{_≤_};
+ghost use Rattle.job.specs.Reading.{readJob};
+ghost use Rattle.certs.specs.Choosing.{certificateOf, chosenFor};
+ghost use Rattle.reduction.specs.Reducing.{Workable, ClearJob, ClearRun, worked, runNamed, reducedRun};
+
+// A run's number, whether it stands, its sheet and its findings.
+pub struct Reduced {
+    pub number: u16,
+    pub accepted: bool,
+    pub sheet: Sheet,
+    pub findings: Findings,
+}
+
+// What a search for a run by its number answers.
+pub enum Which {
+    Run(usize),
+    Nothing,
+}
+
+// A run worked with the certificates of its job.
+fn work(run: Run, held: [Certificate; 64], count: usize) -> Reduced
+    requires { ⌜ Workable run held count ⌝ }
+    ensures { λ r. ⌜ r ≡ worked run (chosenFor (certificateOf held) count run) ⌝ }
+{
+    let chosen = certs::choose_all(held, count, run);
+    let y = factor::factor_of(chosen);
+    let cp = factor::coefficient_of(chosen);
+    let nozzle = factor::diameters_of(chosen);
+    let l = sheets::lines(run, y, cp, nozzle);
+    let found = findings::find(run, chosen, l);
+    Reduced {
+        number: run.number,
+        accepted: findings::accepted(found),
+        sheet: sheets::sheet(l),
+        findings: found,
+    }
+}
+
+// Run k of a job without trouble, counted from 0 in file order.
+pub fn reduce(s: &[u8], job: Job, k: usize) -> Reduced
+    requires { ⌜ ClearRun (now s) job k ⌝ }
+    ensures { λ r. ⌜ r ≡ reducedRun (now (s .entry)) k ⌝ }
+{
+    let starts = job.starts;
+    let held = job.held;
+    work(parts::run(s, starts[k]), held, job.certificates)
+}
+
+// The run of that number in a job without trouble. Numbers rise, so there is at most one.
+pub fn find_run(s: &[u8], job: Job, number: u16) -> Which
+    requires { ⌜ ClearJob (now s) job ⌝ }
+    ensures { λ r. ⌜ r ≡ runNamed (now (s .entry)) number (job .runs) ⌝ }
+{
+    let starts = job.starts;
+    let runs = job.runs;
+    let mut found = Which::Nothing;
+    let mut k: usize = 0;
+    while k < runs {
+        if numbers::u16_at(numbers::tail(s, starts[k]), 0) == number {
+            found = Which::Run(k);
+        }
+        k += 1;
+    }
+    found
+}
