@@ -1,0 +1,3 @@
+-- What a clear job offers to the work on its runs.
+pub mod ClearJobs
+pub mod Working

@@ -1,0 +1,63 @@
+-- Each call's promise, one after another.
+use borrow.Author.Needs.{needs}
+use Rattle.findings.specs.Listing.{listed, findings, Worked}
+use Rattle.records.specs.declared.Run.{Run}
+use Rattle.certs.specs.declared.Chosen.{Chosen}
+use Rattle.lines.specs.declared.Lines.{Lines}
+use Rattle.findings.proofs.Most.{at-most}
+use Rattle.reduction.proofs.Working.{lines-workable, lines-worked, is-worked}
+use Prim.Native.Nat.{_≤_}
+use Rattle.reduction.proofs.work.Statement.{statement}
+use Rattle.reduction.proofs.work.Tie as tie
+
+choose-all-requires : tie.Need-choose-all-requires
+choose-all-requires c κs = search needs
+
+factor-of-requires : tie.Need-factor-of-requires
+factor-of-requires c κs = search needs
+
+coefficient-of-requires : tie.Need-coefficient-of-requires
+coefficient-of-requires c κs = search needs
+
+diameters-of-requires : tie.Need-diameters-of-requires
+diameters-of-requires c κs = search needs
+
+lines-requires : tie.Need-lines-requires
+lines-requires c κs = lines-workable _ _ _ (c .before .before .before .before .pre) (c .before .before .before .choose-all .ensures) (c .before .before .factor-of .ensures) (c .before .coefficient-of .ensures) (c .diameters-of .ensures)
+
+find-requires : tie.Need-find-requires
+find-requires c κs = 
+    record
+    { ok = c .before .before .before .before .before .pre .run
+    ; lines = lines-worked _ _ (c .before .before .before .factor-of .ensures) (c .before .before .coefficient-of .ensures) (c .before .diameters-of .ensures) (c .lines .ensures .0)
+    }
+
+worked-lines : (c : tie.After-find) → Worked (c .before .before .before .before .before .before .args .run) (c .before .before .before .before .before .choose-all .result) (c .before .lines .result)
+worked-lines c = find-requires (c .before) (tt {0})
+
+found-few : {r : Run} {ch : Chosen} {l : Lines} → Worked r ch l → listed (findings r ch l) .count ≤ 98
+unfolding listed
+found-few w = at-most _ _ _ w
+
+accepted-requires : tie.Need-accepted-requires
+accepted-requires c κs = rw (c .find .ensures) (found-few (worked-lines c))
+
+sheet-requires : tie.Need-sheet-requires
+sheet-requires c κs = search needs
+
+returns : tie.Need-returns
+returns c = is-worked _ (c .before .before .before .before .before .before .before .choose-all .ensures) (worked-lines (c .before .before) .lines) (c .before .before .find .ensures) (c .before .accepted .ensures) (c .sheet .ensures)
+
+pub work-spec : {M : Type 1} → statement M
+work-spec =
+    tie.close
+    (tie.spec
+    choose-all-requires
+    factor-of-requires
+    coefficient-of-requires
+    diameters-of-requires
+    lines-requires
+    find-requires
+    accepted-requires
+    sheet-requires
+    returns)
