@@ -10,7 +10,11 @@ use lib.ListN.{length, getD, set, replicate, length-append, List·getD-append}
 use lib.Seq.{set-append-seam, append-snoc, getD-append-add}
 use Rattle.traverse.specs.Layout.{eachTo, padded}
 
--- One part more, at the code's i + 1
+-- No part, and one part more, at the code's n + 1
+pub each-none : (f : ℕ → List ℕ) → eachTo f 0 ≡ []
+unfolding eachTo
+each-none f = refl
+
 pub each-more : (f : ℕ → List ℕ) (n : ℕ) → eachTo f (n + 1) ≡ eachTo f n ++ f (n + 1)
 unfolding eachTo
 each-more f n = rw (add-one n)

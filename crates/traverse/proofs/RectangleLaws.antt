@@ -4,14 +4,14 @@ use mathlib.Core.Path.{_≡_, refl, sym, ap, _∙_}
 use mathlib.Core.Bool.{Bool, true, false, cond, _&&_, _||_}
 use mathlib.Core.List.{[], _∷_}
 use mathlib.Core.Logic.{_⊎_, inl, inr}
-use native.Mathlib.Nat.{add-mul, mul-comm, mul-assoc, mul-le-mul, mul-le-mul-right, mul-div-right, lt-of-not-le, not-le-of-lt}
+use native.Mathlib.Nat.{add-mul, mul-comm, mul-assoc, mul-left-comm, mul-le-mul, mul-le-mul-right, mul-div-left, lt-of-not-le, not-le-of-lt}
 use native.Mathlib.Decide.{decLe}
 use native.Mathlib.Omega.{arith}
 use borrow.Author.Tests.{leb-true, eqb-true, ne-eqb, le-leb, lt-leb}
 use lib.Dec.{leb, eqb}
 use Rattle.arith.specs.Rounding.{roundDiv, IsRounded}
 use Rattle.arith.proofs.Rounding.{round-is, round-le}
-use Rattle.readings.specs.Ranges.{gridPoints, side}
+use Rattle.readings.specs.Ranges.{oneOf, gridPoints, side}
 use Rattle.readings.proofs.Ranges.{within-least, within-greatest}
 use Rattle.traverse.specs.Rectangle.{rectangleFits, wideEnough, gridOf, firstCells, secondCells, center}
 use Rattle.traverse.proofs.Tests.{and-left, and-right, allOf, all-of}
@@ -39,11 +39,122 @@ rectangle-ok n first second e =
       secondMost = within-greatest 1 9999 second b;
     }
 
--- the grid of n points has n cells, from 3 to 7 on a side
+-- a grid has n cells, and few of them on a side
+pub record CellsOk (n columns rows : ℕ) : Type 0 where
+  pub cells : rows * columns ≡ n
+  pub columnsSome : 1 ≤ columns
+  pub columnsFew : columns ≤ 7
+  pub rowsSome : 1 ≤ rows
+  pub rowsFew : rows ≤ 7
+
+-- the same as a test, with the larger count as the columns
 right : ℕ → Bool
 right n =
-    eqb (gridOf n .larger * gridOf n .smaller) n && (leb 3 (gridOf n .smaller) && (leb (gridOf n .smaller) 7 && (leb 3 (gridOf n .larger) && leb (gridOf n .larger) 7)))
+    eqb (gridOf n .smaller * gridOf n .larger) n
+    && (leb 1 (gridOf n .larger)
+    && (leb (gridOf n .larger) 7 && (leb 1 (gridOf n .smaller) && leb (gridOf n .smaller) 7)))
 
 all-right : allOf right (9 ∷ 12 ∷ 16 ∷ 20 ∷ 25 ∷ 30 ∷ 36 ∷ 42 ∷ 49 ∷ []) ≡ true
 unfolding right gridOf
 all-right = refl
+
+pub grid-ok : (n : ℕ) → gridPoints n ≡ true → CellsOk n (gridOf n .larger) (gridOf n .smaller)
+unfolding right
+grid-ok n e =
+    let a : ℕ = gridOf n .larger in
+    let b : ℕ = gridOf n .smaller in
+    let all = all-of right (9 ∷ 12 ∷ 16 ∷ 20 ∷ 25 ∷ 30 ∷ 36 ∷ 42 ∷ 49 ∷ []) all-right n e in
+    let after1 = and-right (eqb (b * a) n) (leb 1 a && (leb a 7 && (leb 1 b && leb b 7))) all in
+    let after2 = and-right (leb 1 a) (leb a 7 && (leb 1 b && leb b 7)) after1 in
+    let after3 = and-right (leb a 7) (leb 1 b && leb b 7) after2 in
+    record {
+      cells = eqb-true _ _ (and-left (eqb (b * a) n) (leb 1 a && (leb a 7 && (leb 1 b && leb b 7))) all);
+      columnsSome = leb-true _ _ (and-left (leb 1 a) (leb a 7 && (leb 1 b && leb b 7)) after1);
+      columnsFew = leb-true _ _ (and-left (leb a 7) (leb 1 b && leb b 7) after2);
+      rowsSome = leb-true _ _ (and-left (leb 1 b) (leb b 7) after3);
+      rowsFew = leb-true _ _ (and-right (leb 1 b) (leb b 7) after3);
+    }
+
+-- The smaller count is what the larger leaves
+pub smaller-is : (n : ℕ) → gridPoints n ≡ true → n / gridOf n .larger ≡ gridOf n .smaller
+smaller-is n e =
+    let ok = grid-ok n e in
+    ap (λ m. m / gridOf n .larger) (sym (ok .cells)) ∙ mul-div-left (gridOf n .smaller) (ok .columnsSome)
+
+-- The larger count is along the longer side, along the first where they are equal
+module _ (n first second : ℕ) where
+  pub first-longer : second ≤ first → firstCells n first second ≡ gridOf n .larger
+  unfolding firstCells
+  first-longer h = rw (le-leb second first h)
+
+  pub first-shorter : first < second → firstCells n first second ≡ gridOf n .smaller
+  unfolding firstCells
+  first-shorter h = rw (lt-leb second first h)
+
+  pub second-shorter : second ≤ first → secondCells n first second ≡ gridOf n .smaller
+  unfolding secondCells
+  second-shorter h = rw (le-leb second first h)
+
+  pub second-longer : first < second → secondCells n first second ≡ gridOf n .larger
+  unfolding secondCells
+  second-longer h = rw (lt-leb second first h)
+
+  pub cells-ok : gridPoints n ≡ true → CellsOk n (firstCells n first second) (secondCells n first second)
+  cells-ok e = go (decLe second first)
+    where
+      ok : CellsOk n (gridOf n .larger) (gridOf n .smaller)
+      ok = grid-ok n e
+
+      go : Dec (second ≤ first) → CellsOk n (firstCells n first second) (secondCells n first second)
+      go (yes h) = rw (first-longer h, second-shorter h) ok
+      go (no f) =
+          let h : first < second = lt-of-not-le f in
+          rw (first-shorter h, second-longer h)
+          (record {
+            cells = mul-comm (gridOf n .larger) (gridOf n .smaller) ∙ ok .cells;
+            columnsSome = ok .rowsSome;
+            columnsFew = ok .rowsFew;
+            rowsSome = ok .columnsSome;
+            rowsFew = ok .columnsFew;
+          })
+
+-- n points are those of a grid with fewer than 7 cells on a side, or 7 is the larger count
+upTo6Or7 : ℕ → Bool
+upTo6Or7 n = oneOf (9 ∷ 12 ∷ 16 ∷ 20 ∷ 25 ∷ 30 ∷ 36 ∷ []) n || eqb (gridOf n .larger) 7
+
+all-upTo6Or7 : allOf upTo6Or7 (9 ∷ 12 ∷ 16 ∷ 20 ∷ 25 ∷ 30 ∷ 36 ∷ 42 ∷ 49 ∷ []) ≡ true
+unfolding upTo6Or7 gridOf
+all-upTo6Or7 = refl
+
+-- So 7 is the larger count where n is none of the others
+pub seven : (n : ℕ) → gridPoints n ≡ true → (n ≡ 9 → ⊥) → ((n ≡ 12) ⊎ (n ≡ 16) → ⊥) → ((n ≡ 20) ⊎ (n ≡ 25) → ⊥) → ((n ≡ 30) ⊎ (n ≡ 36) → ⊥) → gridOf n .larger ≡ 7
+unfolding upTo6Or7
+seven n e not3 not4 not5 not6 =
+    eqb-true _ _
+    (rw (
+      ne-eqb n 9 not3,
+      ne-eqb n 12 (λ x. not4 (inl x)),
+      ne-eqb n 16 (λ x. not4 (inr x)),
+      ne-eqb n 20 (λ x. not5 (inl x)),
+      ne-eqb n 25 (λ x. not5 (inr x)),
+      ne-eqb n 30 (λ x. not6 (inl x)),
+      ne-eqb n 36 (λ x. not6 (inr x)),
+    ) at (all-of upTo6Or7 (9 ∷ 12 ∷ 16 ∷ 20 ∷ 25 ∷ 30 ∷ 36 ∷ 42 ∷ 49 ∷ []) all-upTo6Or7 n e))
+
+-- A center, within what the code can hold
+pub center-product : {side i cells : ℕ} → side ≤ 9999 → i ≤ cells → cells ≤ 7 → (2 * i - 1) * 100 * side ≤ 1300 * 9999
+center-product {side} {i} {cells} narrow inside few =
+    let odd : (2 * i - 1) * 100 ≤ 1300 = omega arith in
+    mul-le-mul odd narrow
+
+pub center-most : (side cells i : ℕ) → 1 ≤ cells → i ≤ cells → center side cells i ≤ 100 * side
+unfolding center
+center-most side cells i some inside =
+    let odd : (2 * i - 1) * 100 ≤ 200 * cells = omega arith in
+    let times : (2 * i - 1) * 100 * side ≤ 200 * cells * side = mul-le-mul-right side odd in
+    let swap : 200 * cells * side ≡ 200 * (cells * side) = mul-assoc 200 cells side in
+    let swap2 : 100 * side * (2 * cells) ≡ 100 * (side * (2 * cells)) = mul-assoc 100 side (2 * cells) in
+    let swap3 : side * (2 * cells) ≡ 2 * (side * cells) = mul-left-comm side 2 cells in
+    let swap4 : cells * side ≡ side * cells = mul-comm cells side in
+    let enough : (2 * i - 1) * 100 * side ≤ 100 * side * (2 * cells) = omega arith in
+    round-le _ (2 * cells) (100 * side) (omega arith) enough

@@ -17,6 +17,13 @@ pub and-right : (a b : Bool) → (a && b) ≡ true → b ≡ true
 and-right true b e = e
 and-right false b e = absurd (false≢true e)
 
+-- What a failed or a passed first test makes of the whole
+pub first-fails : (a b : Bool) → a ≡ false → false ≡ (a && b)
+first-fails a b e = rw e
+
+pub first-passes : {r : Bool} (a b : Bool) → a ≡ true → r ≡ b → r ≡ (a && b)
+first-passes a b e rest = rw e rest
+
 -- f passes at each number below n
 abbrev pub allBelow : (ℕ → Bool) → ℕ → Bool
 allBelow f zero = true

@@ -1,35 +1,39 @@
+-- The checks in order; the first that fails decides.
+use mathlib.Core.Path.{_∙_, sym}
 use borrow.Author.Needs.{needs}
+use borrow.Author.Tests.{not-true, not-false}
+use Rattle.traverse.specs.Round.{roundFits}
+use Rattle.traverse.proofs.Tests.{first-fails, first-passes}
 use Rattle.traverse.proofs.round_fits.Statement.{statement}
 use Rattle.traverse.proofs.round_fits.Tie as tie
-use Rattle.traverse.proofs.round_fits.Reads as reads
-use Rattle.traverse.proofs.round_fits.Lts as lts
-use Rattle.readings.proofs.certificates.NozzleDiameter.check.Reads as certificates-NozzleDiameter-check-reads
-use Rattle.readings.proofs.layouts.DiameterPoints.check.Reads as layouts-DiameterPoints-check-reads
-use Rattle.readings.proofs.layouts.LayoutDiameter.check.Reads as layouts-LayoutDiameter-check-reads
 
--- src/lib.rt:32:9
 check-requires : tie.Need-check-requires
 check-requires c κs = search needs
 
--- src/lib.rt:33:9
 returns : tie.Need-returns
-returns c = ?
+unfolding roundFits
+returns c = first-fails _ _ (sym (c .before .check .ensures) ∙ not-true _ (c .if1 .taken))
 
--- src/lib.rt:35:9
 check-requires-2 : tie.Need-check-requires-2
 check-requires-2 c κs = search needs
 
--- src/lib.rt:36:9
 returns-2 : tie.Need-returns-2
-returns-2 c = ?
+unfolding roundFits
+returns-2 c =
+    let past = c .before .before in
+    first-passes _ _ (sym (past .before .check .ensures) ∙ not-false _ (past .if1 .left))
+    (first-fails _ _ (sym (c .before .check2 .ensures) ∙ not-true _ (c .if2 .taken)))
 
--- src/lib.rt:38:5
 check-requires-3 : tie.Need-check-requires-3
 check-requires-3 c κs = search needs
 
--- src/lib.rt:29:1
 returns-3 : tie.Need-returns-3
-returns-3 c = ?
+unfolding roundFits
+returns-3 c =
+    let second = c .before in
+    let first = second .before .before in
+    first-passes _ _ (sym (first .before .check .ensures) ∙ not-false _ (first .if1 .left))
+    (first-passes _ _ (sym (second .before .check2 .ensures) ∙ not-false _ (second .if2 .left)) (c .check3 .ensures))
 
 pub round-fits-spec : {M : Type 1} → statement M
 round-fits-spec =

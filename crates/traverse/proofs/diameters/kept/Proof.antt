@@ -1,26 +1,23 @@
+-- The definition, written with the two choices.
+use mathlib.Core.Path.{_∙_, ap}
+use Prim.Native.Nat.{_-_, min}
 use borrow.Author.Needs.{needs}
+use Rattle.traverse.specs.Round.{kept}
 use Rattle.traverse.proofs.diameters.kept.Statement.{statement}
 use Rattle.traverse.proofs.diameters.kept.Tie as tie
-use Rattle.traverse.proofs.diameters.kept.Reads as reads
-use Rattle.traverse.proofs.diameters.kept.Lts as lts
-use Rattle.arith.proofs.smaller.Reads as smaller-reads
-use Rattle.traverse.proofs.diameters.larger.Reads as larger-reads
 
--- src/diameters.rt:66:13
 larger-requires : tie.Need-larger-requires
 larger-requires c κs = search needs
 
--- src/diameters.rt:66:39
 sub-smaller : tie.Need-sub-smaller
 sub-smaller c = search needs
 
--- src/diameters.rt:66:5
 smaller-requires : tie.Need-smaller-requires
 smaller-requires c κs = search needs
 
--- src/diameters.rt:62:1
 returns : tie.Need-returns
-returns c = ?
+unfolding kept
+returns c = rw (c .smaller .ensures, c .before .larger .ensures)
 
 pub kept-spec : {M : Type 1} → statement M
 kept-spec = tie.close (tie.spec larger-requires sub-smaller smaller-requires returns)

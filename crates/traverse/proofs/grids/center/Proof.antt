@@ -1,37 +1,38 @@
+-- One rounded division, no wider than the side.
 use borrow.Author.Needs.{needs}
+use native.Mathlib.Omega.{arith}
+use Rattle.traverse.specs.Rectangle.{center}
+use Rattle.traverse.proofs.RectangleLaws.{center-product, center-most}
 use Rattle.traverse.proofs.grids.center.Statement.{statement}
 use Rattle.traverse.proofs.grids.center.Tie as tie
-use Rattle.traverse.proofs.grids.center.Reads as reads
-use Rattle.traverse.proofs.grids.center.Lts as lts
-use Rattle.arith.proofs.round_div.Reads as round-div-reads
 
--- src/grids.rt:56:16
 mul-round-div : tie.Need-mul-round-div
 mul-round-div c = search needs
 
--- src/grids.rt:56:16
 sub-round-div : tie.Need-sub-round-div
 sub-round-div c = search needs
 
--- src/grids.rt:56:15
 mul-round-div-2 : tie.Need-mul-round-div-2
 mul-round-div-2 c = search needs
 
--- src/grids.rt:56:15
 mul-round-div-3 : tie.Need-mul-round-div-3
-mul-round-div-3 c = ?
+mul-round-div-3 c = omega (arith, center-product (c .pre .0) (c .pre .4) (c .pre .2))
 
--- src/grids.rt:56:41
 mul-round-div-4 : tie.Need-mul-round-div-4
 mul-round-div-4 c = search needs
 
--- src/grids.rt:56:5
 round-div-requires : tie.Need-round-div-requires
 round-div-requires c κs = search needs
 
--- src/grids.rt:52:1
 returns : tie.Need-returns
-returns c = ?
+unfolding center
+returns c =
+    let p = c .before .pre in
+    let a = c .before .args in
+    record {
+      is = c .round-div .ensures;
+      high = rw (c .round-div .ensures) (omega (arith, center-most (a .side) (a .cells) (a .i) (p .1) (p .4), p .0));
+    }
 
 pub center-spec : {M : Type 1} → statement M
 center-spec =

@@ -1,25 +1,21 @@
+-- The larger count where the first side is no shorter, else what it leaves.
+use mathlib.Core.Path.{_∙_, sym}
 use borrow.Author.Needs.{needs}
+use Rattle.traverse.proofs.RectangleLaws.{grid-ok, smaller-is, first-longer, first-shorter}
 use Rattle.traverse.proofs.grids.first_cells.Statement.{statement}
 use Rattle.traverse.proofs.grids.first_cells.Tie as tie
-use Rattle.traverse.proofs.grids.first_cells.Reads as reads
-use Rattle.traverse.proofs.grids.first_cells.Lts as lts
-use Rattle.traverse.proofs.grids.larger_count.Reads as larger-count-reads
 
--- src/grids.rt:30:9
 larger-count-requires : tie.Need-larger-count-requires
 larger-count-requires c κs = search needs
 
--- src/grids.rt:34:9
 div-result : tie.Need-div-result
-div-result c = ?
+div-result c = rw (c .before .larger-count .ensures) (grid-ok _ (c .before .before .pre) .columnsSome)
 
--- src/grids.rt:26:1
 returns : tie.Need-returns
-returns c = ?
+returns c = c .before .larger-count .ensures ∙ sym (first-longer _ _ _ (c .if1 .taken))
 
--- src/grids.rt:26:1
 returns-2 : tie.Need-returns-2
-returns-2 c = ?
+returns-2 c = rw (c .before .larger-count .ensures) (smaller-is _ (c .before .before .pre) ∙ sym (first-shorter _ _ _ (c .if1 .left)))
 
 pub first-cells-spec : {M : Type 1} → statement M
 first-cells-spec = tie.close (tie.spec larger-count-requires div-result returns returns-2)

@@ -1,25 +1,21 @@
+-- What the larger count leaves where the first side is no shorter, else the larger count.
+use mathlib.Core.Path.{_∙_, sym}
 use borrow.Author.Needs.{needs}
+use Rattle.traverse.proofs.RectangleLaws.{grid-ok, smaller-is, second-longer, second-shorter}
 use Rattle.traverse.proofs.grids.second_cells.Statement.{statement}
 use Rattle.traverse.proofs.grids.second_cells.Tie as tie
-use Rattle.traverse.proofs.grids.second_cells.Reads as reads
-use Rattle.traverse.proofs.grids.second_cells.Lts as lts
-use Rattle.traverse.proofs.grids.larger_count.Reads as larger-count-reads
 
--- src/grids.rt:43:9
 larger-count-requires : tie.Need-larger-count-requires
 larger-count-requires c κs = search needs
 
--- src/grids.rt:45:9
 div-result : tie.Need-div-result
-div-result c = ?
+div-result c = rw (c .before .larger-count .ensures) (grid-ok _ (c .before .before .pre) .columnsSome)
 
--- src/grids.rt:39:1
 returns : tie.Need-returns
-returns c = ?
+returns c = rw (c .before .larger-count .ensures) (smaller-is _ (c .before .before .pre) ∙ sym (second-shorter _ _ _ (c .if1 .taken)))
 
--- src/grids.rt:39:1
 returns-2 : tie.Need-returns-2
-returns-2 c = ?
+returns-2 c = c .before .larger-count .ensures ∙ sym (second-longer _ _ _ (c .if1 .left))
 
 pub second-cells-spec : {M : Type 1} → statement M
 second-cells-spec = tie.close (tie.spec larger-count-requires div-result returns returns-2)
