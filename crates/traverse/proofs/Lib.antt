@@ -4,3 +4,4 @@ pub mod ListLaws
 pub mod PositionLaws
 pub mod RoundLaws
 pub mod RectangleLaws
+pub mod RowLaws

@@ -3,7 +3,7 @@ use Prim.Native.Nat.{ℕ, zero, suc, _+_, _-_, _*_, _≤_, _<_}
 use mathlib.Core.Path.{_≡_, refl, sym, ap, _∙_}
 use mathlib.Core.List.{List, [], _∷_, _++_, append-assoc, append-nil}
 use mathlib.Core.Logic.{⊎-elim}
-use native.Mathlib.Nat.{suc-mul, zero-mul, mul-le-mul-right, eq-or-lt-of-le, le-of-suc-le-suc, not-suc-le-zero}
+use native.Mathlib.Nat.{add-assoc, suc-mul, zero-mul, mul-le-mul-right, eq-or-lt-of-le, le-of-suc-le-suc, not-suc-le-zero}
 use native.Mathlib.Numerals.{add-one}
 use native.Mathlib.Omega.{arith}
 use lib.ListN.{length, getD, set, replicate, length-append, List·getD-append}
@@ -68,3 +68,8 @@ filled-more {ds} {at} {array} a t room =
       next = omega (arith, t .next, length-append ds (a ∷ []));
       holds = rw (t .holds, t .next) (pad-more ds a inside);
     }
+
+-- Two numbers more, at the end of the second of two lists
+pub filled-two : (xs ys : List ℕ) {at : ℕ} {array : List ℕ} (a b : ℕ) → Filled (xs ++ ys) at array → at + 1 < 98 → Filled (xs ++ (ys ++ (a ∷ b ∷ []))) (at + 2) (set (set array at a) (at + 1) b)
+filled-two xs ys {at = at} a b t room =
+    simp (append-assoc, add-assoc) at (filled-more b (filled-more a t (omega arith)) room)

@@ -8,7 +8,6 @@ use Rattle.readings.specs.Ranges.{gridPoints, side}
 use Rattle.traverse.specs.Layout.{eachTo}
 
 infixl 50 _by_
-
 -- a rectangle's diameter 2LW/(L+W) is 12 in or more
 unfoldable pub wideEnough : ℕ → ℕ → Bool
 wideEnough first second = leb (120 * (first + second)) (2 * first * second)

@@ -1,114 +1,118 @@
+-- Two loops, along the second side and, inside it, along the first: each turn of the inner one stores a point's two distances.
+use Prim.Native.Nat.{ℕ, _-_, _≤_}
+use mathlib.Core.Path.{_≡_}
+use native.Mathlib.Omega.{arith}
+use Rattle.traverse.specs.Rectangle.{firstCells, secondCells}
+use Rattle.traverse.proofs.ListLaws.{filled-none}
+use Rattle.traverse.proofs.RectangleLaws.{RectangleOk, rectangle-ok, CellsOk, cells-ok}
+use Rattle.traverse.proofs.RowLaws.{Rows, Row, rows-none, row-none, row-room, row-more, row-all, rows-all}
 use Rattle.traverse.proofs.rectangle.Statement.{statement}
 use Rattle.traverse.proofs.rectangle.Tie as tie
-use Rattle.traverse.proofs.rectangle.Reads as reads
-use Rattle.traverse.proofs.rectangle.Lts as lts
-use Rattle.traverse.proofs.grids.center.Reads as center-reads
-use Rattle.traverse.proofs.grids.first_cells.Reads as first-cells-reads
-use Rattle.traverse.proofs.grids.second_cells.Reads as second-cells-reads
 
 abbrev Inv-loop2 : tie.InvT-loop2
-Inv-loop2 points first second columns rows distances₀ at₀ j i₀ distances at i = ?
+Inv-loop2 points first second columns rows distances₀ at₀ j i₀ distances at i = Row first second columns rows j distances at i
 
 abbrev μ-loop2 : tie.MeasureT-loop2
-μ-loop2 points first second columns rows distances₀ at₀ j i₀ distances at i = ?
+μ-loop2 points first second columns rows distances₀ at₀ j i₀ distances at i = columns - i
 
 abbrev Inv-loop : tie.InvT-loop
-Inv-loop points first second columns rows distances₀ at₀ j₀ distances at j = ?
+Inv-loop points first second columns rows distances₀ at₀ j₀ distances at j = Rows first second columns rows distances at j
 
 abbrev μ-loop : tie.MeasureT-loop
-μ-loop points first second columns rows distances₀ at₀ j₀ distances at j = ?
+μ-loop points first second columns rows distances₀ at₀ j₀ distances at j = rows - j
 
--- src/lib.rt:83:9
+-- what the layout's ranges say of its sides, and of its cells where both counts are known
+sides : (c : tie.Start Inv-loop2 μ-loop2 Inv-loop μ-loop) → RectangleOk (c .args .points) (c .args .first) (c .args .second)
+sides c = rectangle-ok _ _ _ (c .pre)
+
+cells : (c : tie.After-second-cells Inv-loop2 μ-loop2 Inv-loop μ-loop) → CellsOk (c .before .before .args .points) (c .before .first-cells .result) (c .second-cells .result)
+cells c = rw (c .second-cells .ensures, c .before .first-cells .ensures) (cells-ok _ _ _ (sides (c .before .before) .points))
+
+-- in a turn of the inner loop there is room for both distances
+room : (c : tie.In-loop2 Inv-loop2 μ-loop2 Inv-loop μ-loop) → c .before .loop2 .at ≤ 96
+room c =
+    let fits = row-room (cells (c .before .before .before .before)) (c .before .loop2 .inv) (c .before .before .loop-test .taken) (c .loop2-test .taken) in
+    omega arith
+
 first-cells-requires : tie.Need-first-cells-requires Inv-loop2 μ-loop2 Inv-loop μ-loop
-first-cells-requires c κs = ?
+first-cells-requires c κs = sides c .points
 
--- src/lib.rt:84:9
 second-cells-requires : tie.Need-second-cells-requires Inv-loop2 μ-loop2 Inv-loop μ-loop
-second-cells-requires c κs = ?
+second-cells-requires c κs = sides (c .before) .points
 
--- src/lib.rt:88:5
 loop-holds : tie.Need-loop-holds Inv-loop2 μ-loop2 Inv-loop μ-loop
-loop-holds c = ?
+loop-holds c = rows-none filled-none
 
--- src/lib.rt:90:9
 loop2-holds : tie.Need-loop2-holds Inv-loop2 μ-loop2 Inv-loop μ-loop
-loop2-holds c = ?
+loop2-holds c = row-none (c .before .loop .inv)
 
--- src/lib.rt:91:59
 add-center : tie.Need-add-center Inv-loop2 μ-loop2 Inv-loop μ-loop
-add-center c = ?
+add-center c = omega (arith, cells (c .before .before .before .before) .columnsFew)
 
--- src/lib.rt:91:29
 center-requires : tie.Need-center-requires Inv-loop2 μ-loop2 Inv-loop μ-loop
-center-requires c κs = ?
+center-requires c κs =
+    let counted = c .before .before .before .before in
+    let ok = cells counted in
+    (sides (counted .before .before) .firstMost, ok .columnsSome, ok .columnsFew, omega arith, omega arith)
 
--- src/lib.rt:91:29
 cast-distances : tie.Need-cast-distances Inv-loop2 μ-loop2 Inv-loop μ-loop
-cast-distances c = ?
+cast-distances c = omega (arith, c .center .ensures .high)
 
--- src/lib.rt:91:13
 mul-distances : tie.Need-mul-distances Inv-loop2 μ-loop2 Inv-loop μ-loop
-mul-distances c = ?
+mul-distances c = omega (arith, room (c .before))
 
--- src/lib.rt:91:13
 array-write-distances : tie.Need-array-write-distances Inv-loop2 μ-loop2 Inv-loop μ-loop
-array-write-distances c = ?
+array-write-distances c = omega (arith, room (c .before))
 
--- src/lib.rt:92:61
 add-center-2 : tie.Need-add-center-2 Inv-loop2 μ-loop2 Inv-loop μ-loop
-add-center-2 c = ?
+add-center-2 c = omega (arith, cells (c .before .before .before .before .before) .rowsFew)
 
--- src/lib.rt:92:33
 center-requires-2 : tie.Need-center-requires-2 Inv-loop2 μ-loop2 Inv-loop μ-loop
-center-requires-2 c κs = ?
+center-requires-2 c κs =
+    let counted = c .before .before .before .before .before in
+    let ok = cells counted in
+    (sides (counted .before .before) .secondMost, ok .rowsSome, ok .rowsFew, omega arith, omega arith)
 
--- src/lib.rt:92:33
 cast-distances-2 : tie.Need-cast-distances-2 Inv-loop2 μ-loop2 Inv-loop μ-loop
-cast-distances-2 c = ?
+cast-distances-2 c = omega (arith, c .center2 .ensures .high)
 
--- src/lib.rt:92:23
 add-distances : tie.Need-add-distances Inv-loop2 μ-loop2 Inv-loop μ-loop
-add-distances c = ?
+add-distances c = omega (arith, room (c .before .before))
 
--- src/lib.rt:92:13
 mul-distances-2 : tie.Need-mul-distances-2 Inv-loop2 μ-loop2 Inv-loop μ-loop
-mul-distances-2 c = ?
+mul-distances-2 c = omega (arith, room (c .before .before))
 
--- src/lib.rt:92:13
 array-write-distances-2 : tie.Need-array-write-distances-2 Inv-loop2 μ-loop2 Inv-loop μ-loop
-array-write-distances-2 c = ?
+array-write-distances-2 c = omega (arith, room (c .before .before))
 
--- src/lib.rt:93:13
 add-at : tie.Need-add-at Inv-loop2 μ-loop2 Inv-loop μ-loop
-add-at c = ?
+add-at c = omega (arith, room (c .before .before))
 
--- src/lib.rt:94:13
 add-i : tie.Need-add-i Inv-loop2 μ-loop2 Inv-loop μ-loop
-add-i c = ?
+add-i c = omega (arith, cells (c .before .before .before .before .before .before) .columnsFew)
 
--- src/lib.rt:90:9
 loop2-less : tie.Need-loop2-less Inv-loop2 μ-loop2 Inv-loop μ-loop
-loop2-less c = ?
+loop2-less c = omega arith
 
--- src/lib.rt:90:9
 loop2-again : tie.Need-loop2-again Inv-loop2 μ-loop2 Inv-loop μ-loop
-loop2-again c = ?
+loop2-again c =
+    let turn = c .before .before in
+    let outer = turn .before .before in
+    row-more (cells (outer .before .before)) (turn .before .loop2 .inv) (outer .loop-test .taken) (turn .loop2-test .taken) (c .before .center .ensures .is) (c .center2 .ensures .is)
 
--- src/lib.rt:96:9
 add-j : tie.Need-add-j Inv-loop2 μ-loop2 Inv-loop μ-loop
-add-j c = ?
+add-j c = omega (arith, cells (c .before .before .before .before) .rowsFew)
 
--- src/lib.rt:88:5
 loop-less : tie.Need-loop-less Inv-loop2 μ-loop2 Inv-loop μ-loop
-loop-less c = ?
+loop-less c = omega arith
 
--- src/lib.rt:88:5
 loop-again : tie.Need-loop-again Inv-loop2 μ-loop2 Inv-loop μ-loop
-loop-again c = ?
+loop-again c = row-all (c .before .loop2 .inv) (c .before .before .loop-test .taken) (c .loop2-test .left)
 
--- src/lib.rt:79:1
 returns : tie.Need-returns Inv-loop2 μ-loop2 Inv-loop μ-loop
-returns c = ?
+returns c =
+    let counted = c .before .before in
+    rows-all _ (counted .before .first-cells .ensures) (counted .second-cells .ensures) (c .before .loop .inv) (c .loop-test .left)
 
 pub rectangle-spec : {M : Type 1} → statement M
 rectangle-spec =
