@@ -5,3 +5,4 @@ pub mod PositionLaws
 pub mod RoundLaws
 pub mod RectangleLaws
 pub mod RowLaws
+pub mod Theorems

@@ -3,17 +3,16 @@
 use Prim.Native.Nat.{ℕ, _+_, _-_, _*_, _/_, _%_, _^_, _≤_, _<_}
 use mathlib.Core.Path.{_≡_, refl, _∙_}
 use mathlib.Core.Bool.{Bool, true, _&&_}
-use mathlib.Core.List.{map, [], _∷_}
 use native.Mathlib.Nat.{add-comm, mul-le-mul, mul-le-mul-right, lt-of-not-le, le-antisymm, div-le-of-le-mul}
 use native.Mathlib.Decide.{decLe}
 use native.Mathlib.Omega.{arith}
 use borrow.Author.Tests.{leb-true, ltb-true, eqb-true, le-leb, lt-leb}
-use lib.Dec.{leb, ltb, eqb, lit<}
+use lib.Dec.{leb, ltb, eqb}
 use Rattle.arith.specs.Root.{grown, floorRoot, nearestRoot}
 use Rattle.arith.proofs.Root.{nearest-is, root-le}
 use Rattle.readings.specs.Ranges.{within, diameterPoints}
 use Rattle.readings.proofs.Ranges.{within-least, within-greatest}
-use Rattle.traverse.specs.Positions.{IsPosition, nearPosition, position, starredPositions}
+use Rattle.traverse.specs.Positions.{IsPosition, nearPosition, position}
 use Rattle.traverse.proofs.Tests.{and-left, and-right, allBelow, all-below}
 
 -- n points on a diameter
@@ -131,8 +130,3 @@ position-mono {n} {i} {j} ok some inward inside = go (decLe (2 * i) n) (decLe (2
         omega (arith, position-is ok some a .near, position-mirror ok (omega arith) inside, position-is {n = n} {i = n + 1 - j} ok (omega arith) (omega (arith, ok .even)) .near)
     go (no a) (yes b) = absurd (a (omega arith))
     go (no a) (no b) = omega (arith, position-mirror ok some (omega arith), position-mirror ok (omega arith) inside, mirrored (lt-of-not-le a))
-
--- The positions for 6 points
-pub starred-positions : map (position 6) (1 ∷ 2 ∷ 3 ∷ 4 ∷ 5 ∷ 6 ∷ []) ≡ starredPositions
-unfolding starredPositions position nearPosition nearestRoot floorRoot grown
-starred-positions = refl

@@ -1,16 +1,16 @@
 -- Cells and centers of a rectangular stack: what a layout inside its ranges offers, and where the centers lie.
 use Prim.Native.Nat.{ℕ, _+_, _-_, _*_, _/_, _≤_, _<_}
 use mathlib.Core.Path.{_≡_, refl, sym, ap, _∙_}
-use mathlib.Core.Bool.{Bool, true, false, cond, _&&_, _||_}
+use mathlib.Core.Bool.{Bool, true, _&&_, _||_}
 use mathlib.Core.List.{[], _∷_}
 use mathlib.Core.Logic.{_⊎_, inl, inr}
-use native.Mathlib.Nat.{add-mul, mul-comm, mul-assoc, mul-left-comm, mul-le-mul, mul-le-mul-right, mul-div-left, lt-of-not-le, not-le-of-lt}
+use native.Mathlib.Nat.{add-mul, mul-comm, mul-assoc, mul-mul-mul-comm, mul-le-mul, mul-le-mul-right, mul-div-left, le-refl, lt-of-not-le, lt-of-lt-of-le}
 use native.Mathlib.Decide.{decLe}
 use native.Mathlib.Omega.{arith}
 use borrow.Author.Tests.{leb-true, eqb-true, ne-eqb, le-leb, lt-leb}
 use lib.Dec.{leb, eqb}
-use Rattle.arith.specs.Rounding.{roundDiv, IsRounded}
-use Rattle.arith.proofs.Rounding.{round-is, round-le}
+use Rattle.arith.specs.Rounding.{roundDiv}
+use Rattle.arith.proofs.Rounding.{round-is, round-le, le-round}
 use Rattle.readings.specs.Ranges.{oneOf, gridPoints, side}
 use Rattle.readings.proofs.Ranges.{within-least, within-greatest}
 use Rattle.traverse.specs.Rectangle.{rectangleFits, wideEnough, gridOf, firstCells, secondCells, center}
@@ -147,14 +147,53 @@ center-product {side} {i} {cells} narrow inside few =
     let odd : (2 * i - 1) * 100 ≤ 1300 = omega arith in
     mul-le-mul odd narrow
 
-pub center-most : (side cells i : ℕ) → 1 ≤ cells → i ≤ cells → center side cells i ≤ 100 * side
-unfolding center
-center-most side cells i some inside =
-    let odd : (2 * i - 1) * 100 ≤ 200 * cells = omega arith in
-    let times : (2 * i - 1) * 100 * side ≤ 200 * cells * side = mul-le-mul-right side odd in
-    let swap : 200 * cells * side ≡ 200 * (cells * side) = mul-assoc 200 cells side in
-    let swap2 : 100 * side * (2 * cells) ≡ 100 * (side * (2 * cells)) = mul-assoc 100 side (2 * cells) in
-    let swap3 : side * (2 * cells) ≡ 2 * (side * cells) = mul-left-comm side 2 cells in
-    let swap4 : cells * side ≡ side * cells = mul-comm cells side in
-    let enough : (2 * i - 1) * 100 * side ≤ 100 * side * (2 * cells) = omega arith in
-    round-le _ (2 * cells) (100 * side) (omega arith) enough
+-- Quotients that are a whole unit apart are not rounded to the same number
+round-apart : (n m d : ℕ) → 0 < d → n + d ≤ m → roundDiv n d < roundDiv m d
+round-apart n m d some apart = go (decLe (roundDiv m d) (roundDiv n d))
+  where
+    go : Dec (roundDiv m d ≤ roundDiv n d) → roundDiv n d < roundDiv m d
+    go (no f) = lt-of-not-le f
+    go (yes t) =
+        let times : roundDiv m d * d ≤ roundDiv n d * d = mul-le-mul-right d t in
+        absurd (omega (arith, round-is n d some .low, round-is m d some .high))
+
+-- A center is at least half a cell from both walls, and a cell from the next: more than rounding takes away
+module _ (side cells : ℕ) (wide : 1 ≤ side) (some : 1 ≤ cells) (few : cells ≤ 7) where
+  center-rises : (i : ℕ) → 1 ≤ i → center side cells i < center side cells (i + 1)
+  unfolding center
+  center-rises i first =
+      let odd : (2 * (i + 1) - 1) * 100 ≡ (2 * i - 1) * 100 + 200 = omega arith in
+      let next : (2 * (i + 1) - 1) * 100 * side ≡ (2 * i - 1) * 100 * side + 200 * side = rw odd (add-mul ((2 * i - 1) * 100) 200 side) in
+      round-apart ((2 * i - 1) * 100 * side) ((2 * (i + 1) - 1) * 100 * side) (2 * cells) (omega arith) (omega arith)
+
+  center-low : (i : ℕ) → 1 ≤ i → 0 < center side cells i
+  unfolding center
+  center-low i first =
+      let odd : 100 ≤ (2 * i - 1) * 100 = omega arith in
+      let times : 100 * side ≤ (2 * i - 1) * 100 * side = mul-le-mul-right side odd in
+      let enough : 1 * (2 * cells) ≤ (2 * i - 1) * 100 * side = omega arith in
+      le-round ((2 * i - 1) * 100 * side) (2 * cells) 1 (omega arith) enough
+
+  pub center-high : (i : ℕ) → 1 ≤ i → i ≤ cells → center side cells i < 100 * side
+  unfolding center
+  center-high i first inside =
+      let odd : (2 * i - 1) * 100 + 100 ≤ 200 * cells = omega arith in
+      let times : ((2 * i - 1) * 100 + 100) * side ≤ 200 * cells * side = mul-le-mul-right side odd in
+      let spread : ((2 * i - 1) * 100 + 100) * side ≡ (2 * i - 1) * 100 * side + 100 * side = add-mul ((2 * i - 1) * 100) 100 side in
+      let whole : 200 * cells * side ≡ 100 * side * (2 * cells) = mul-assoc 200 cells side ∙ ap (λ x. 200 * x) (mul-comm cells side) ∙ sym (mul-mul-mul-comm 100 side 2 cells) in
+      lt-of-lt-of-le (round-apart ((2 * i - 1) * 100 * side) (100 * side * (2 * cells)) (2 * cells) (omega arith) (omega arith))
+      (round-le (100 * side * (2 * cells)) (2 * cells) (100 * side) (omega arith) (le-refl _))
+
+-- centers lie between the walls, on none of them, and strictly rise along the side
+pub record Spread (side cells : ℕ) : Type 0 where
+  pub low : (i : ℕ) → 1 ≤ i → 0 < center side cells i
+  pub high : (i : ℕ) → 1 ≤ i → i ≤ cells → center side cells i < 100 * side
+  pub rises : (i : ℕ) → 1 ≤ i → center side cells i < center side cells (i + 1)
+
+pub spread : (side cells : ℕ) → 1 ≤ side → 1 ≤ cells → cells ≤ 7 → Spread side cells
+spread side cells wide some few =
+    record {
+      low = center-low side cells wide some few;
+      high = center-high side cells wide some few;
+      rises = center-rises side cells wide some few;
+    }

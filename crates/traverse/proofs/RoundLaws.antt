@@ -1,20 +1,20 @@
 -- Distances in a round stack: what a layout inside its ranges offers, and what the margin does to a distance.
 use Prim.Native.Nat.{ℕ, _+_, _-_, _*_, _/_, _%_, _≤_, _<_, min, max}
-use mathlib.Core.Path.{_≡_, refl, _∙_}
-use mathlib.Core.Bool.{Bool, true, false, cond, _&&_}
-use native.Mathlib.Nat.{add-mul, mul-le-mul, mul-le-mul-right, lt-of-not-le}
+use mathlib.Core.Path.{_≡_, ap}
+use mathlib.Core.Bool.{Bool, true, cond, _&&_}
+use native.Mathlib.Nat.{add-mul, mul-le-mul-right, lt-of-not-le}
 use native.Mathlib.Decide.{decLe, ℕ-discrete}
 use native.Mathlib.Omega.{arith}
 use borrow.Author.Tests.{le-leb, lt-leb, eq-eqb, ne-eqb}
-use lib.Dec.{leb, eqb, lit<}
+use lib.Dec.{eqb, lit<}
 use Rattle.arith.specs.Rounding.{roundDiv, IsRounded}
 use Rattle.arith.proofs.Rounding.{round-is, round-mono}
-use Rattle.readings.specs.Ranges.{within, diameterPoints, layoutDiameter, nozzleDiameter}
+use Rattle.readings.specs.Ranges.{diameterPoints, layoutDiameter, nozzleDiameter}
 use Rattle.readings.proofs.Ranges.{within-least, within-greatest}
 use Rattle.traverse.specs.Positions.{position}
 use Rattle.traverse.specs.Round.{roundFits, margin, kept, measured, distance}
 use Rattle.traverse.proofs.Tests.{and-left, and-right}
-use Rattle.traverse.proofs.PositionLaws.{Points, points-of, position-mono, position-mirror}
+use Rattle.traverse.proofs.PositionLaws.{points-of, position-mono, position-mirror}
 
 -- a round layout inside its ranges
 pub record RoundOk (n diameter nozzle : ℕ) : Type 0 where
@@ -127,3 +127,28 @@ module _ (m width : ℕ) (half : 2 * m ≤ width) where
         go (yes a) (no b) c = rw (eq-eqb _ _ a, ne-eqb _ _ b) (omega (arith, mirror-near b))
         go (yes a) (yes b) (no c) = rw (eq-eqb _ _ a, eq-eqb _ _ b, ne-eqb _ _ c) (omega (arith, mirror-far c))
         go (yes a) (yes b) (yes c) = rw (eq-eqb _ _ a, eq-eqb _ _ b, eq-eqb _ _ c) (omega (arith, rounded-half x y width whole a))
+
+-- The distances of a layout inside its ranges, point i counted from 1
+module _ (n d z : ℕ) (ok : RoundOk n d z) where
+  pub distance-least : (i : ℕ) → margin d z ≤ distance n d z i
+  unfolding distance
+  distance-least i = kept-least (margin d z) (100 * d) (margin-half ok) (measured n d i)
+
+  pub distance-most : (i : ℕ) → distance n d z i ≤ 100 * d - margin d z
+  unfolding distance
+  distance-most i = kept-most (margin d z) (100 * d) (margin-half ok) (measured n d i)
+
+  pub distance-mono : (i j : ℕ) → 1 ≤ i → i ≤ j → j ≤ n → distance n d z i ≤ distance n d z j
+  unfolding distance measured
+  distance-mono i j some inward inside =
+      kept-mono (margin d z) (100 * d) (margin-half ok) (measured n d i) (measured n d j)
+      (round-mono (position n i * d) (position n j * d) 10 (lit< tt) (mul-le-mul-right d (position-mono (points-of n (ok .points)) some inward inside)))
+
+  -- Point i and its mirror image make up the width, or one thousandth more
+  pub distance-mirror : (i : ℕ) → 1 ≤ i → i ≤ n → distance n d z i + distance n d z (n + 1 - i) ≡ 100 * d + cond (oneTooMany (margin d z) (100 * d) (position n i * d) (position n (n + 1 - i) * d)) 1 0
+  unfolding distance measured
+  distance-mirror i some inside =
+      let whole : position n i + position n (n + 1 - i) ≡ 1000 = position-mirror (points-of n (ok .points)) some inside in
+      let spread : (position n i + position n (n + 1 - i)) * d ≡ position n i * d + position n (n + 1 - i) * d = add-mul (position n i) (position n (n + 1 - i)) d in
+      let width : (position n i + position n (n + 1 - i)) * d ≡ 1000 * d = ap (λ p. p * d) whole in
+      kept-mirror (margin d z) (100 * d) (margin-half ok) (position n i * d) (position n (n + 1 - i) * d) (omega arith)

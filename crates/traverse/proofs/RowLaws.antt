@@ -1,13 +1,13 @@
 -- The rows of a rectangular layout as a loop fills them: whole rows, and the beginning of the next one.
 use Prim.Native.Nat.{ℕ, suc, _+_, _*_, _≤_, _<_}
-use mathlib.Core.Path.{_≡_, refl, sym, ap, _∙_}
-use mathlib.Core.List.{List, [], _∷_, _++_, append-assoc, append-nil}
-use native.Mathlib.Nat.{suc-mul, mul-le-mul, mul-le-mul-right, le-antisymm}
+use mathlib.Core.Path.{_≡_, refl, _∙_}
+use mathlib.Core.List.{List, [], _∷_, _++_, append-nil}
+use native.Mathlib.Nat.{mul-assoc, suc-mul, mul-le-mul, mul-le-mul-right, le-antisymm}
 use native.Mathlib.Omega.{arith}
-use lib.ListN.{length, set, length-append}
-use Rattle.traverse.specs.Layout.{eachTo, padded, Holds}
+use lib.ListN.{length, getD, set, length-append}
+use Rattle.traverse.specs.Layout.{eachTo, Holds}
 use Rattle.traverse.specs.Rectangle.{firstCells, secondCells, center, rectangleLayout}
-use Rattle.traverse.proofs.ListLaws.{Filled, filled-two, each-none, each-more, each-length}
+use Rattle.traverse.proofs.ListLaws.{Filled, filled-two, each-none, each-more, each-length, each-at}
 use Rattle.traverse.proofs.RectangleLaws.{CellsOk}
 
 -- the two distances of cell i along the first side, j along the second
@@ -21,6 +21,15 @@ row first second columns rows j = eachTo (pair first second columns rows j) colu
 module _ (first second columns rows : ℕ) where
   pub row-length : (j : ℕ) → length (row first second columns rows j) ≡ columns * 2
   row-length j = each-length (pair first second columns rows j) 2 (λ i. refl) columns
+
+  -- Number e of the two of cell i in row j, both counted from 0
+  pub rows-at : (i j e : ℕ) → i < columns → j < rows → e < 2 → getD (eachTo (row first second columns rows) rows) (2 * (j * columns + i) + e) 0 ≡ getD (pair first second columns rows (j + 1) (i + 1)) e 0
+  rows-at i j e along across two =
+      let swap : j * columns * 2 ≡ j * (columns * 2) = mul-assoc j columns 2 in
+      let place : 2 * (j * columns + i) + e ≡ j * (columns * 2) + (i * 2 + e) = omega arith in
+      rw place
+      (each-at (row first second columns rows) (columns * 2) row-length rows j (i * 2 + e) across (omega arith)
+      ∙ each-at (pair first second columns rows (j + 1)) 2 (λ i. refl) columns i e along two)
 
   -- j rows
   pub record Rows (array : List ℕ) (at j : ℕ) : Type 0 where

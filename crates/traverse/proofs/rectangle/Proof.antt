@@ -1,8 +1,6 @@
 -- Two loops, along the second side and, inside it, along the first: each turn of the inner one stores a point's two distances.
-use Prim.Native.Nat.{ℕ, _-_, _≤_}
-use mathlib.Core.Path.{_≡_}
+use Prim.Native.Nat.{_-_, _≤_}
 use native.Mathlib.Omega.{arith}
-use Rattle.traverse.specs.Rectangle.{firstCells, secondCells}
 use Rattle.traverse.proofs.ListLaws.{filled-none}
 use Rattle.traverse.proofs.RectangleLaws.{RectangleOk, rectangle-ok, CellsOk, cells-ok}
 use Rattle.traverse.proofs.RowLaws.{Rows, Row, rows-none, row-none, row-room, row-more, row-all, rows-all}
@@ -53,7 +51,8 @@ center-requires : tie.Need-center-requires Inv-loop2 μ-loop2 Inv-loop μ-loop
 center-requires c κs =
     let counted = c .before .before .before .before in
     let ok = cells counted in
-    (sides (counted .before .before) .firstMost, ok .columnsSome, ok .columnsFew, omega arith, omega arith)
+    let all = sides (counted .before .before) in
+    (all .firstLeast, all .firstMost, ok .columnsSome, ok .columnsFew, omega arith, omega arith)
 
 cast-distances : tie.Need-cast-distances Inv-loop2 μ-loop2 Inv-loop μ-loop
 cast-distances c = omega (arith, c .center .ensures .high)
@@ -71,7 +70,8 @@ center-requires-2 : tie.Need-center-requires-2 Inv-loop2 μ-loop2 Inv-loop μ-lo
 center-requires-2 c κs =
     let counted = c .before .before .before .before .before in
     let ok = cells counted in
-    (sides (counted .before .before) .secondMost, ok .rowsSome, ok .rowsFew, omega arith, omega arith)
+    let all = sides (counted .before .before) in
+    (all .secondLeast, all .secondMost, ok .rowsSome, ok .rowsFew, omega arith, omega arith)
 
 cast-distances-2 : tie.Need-cast-distances-2 Inv-loop2 μ-loop2 Inv-loop μ-loop
 cast-distances-2 c = omega (arith, c .center2 .ensures .high)

@@ -1,5 +1,5 @@
 -- The position rounded to a distance and kept from the walls. The range of each part bounds the products.
-use Prim.Native.Nat.{ℕ, _*_, _≤_}
+use Prim.Native.Nat.{ℕ, _*_}
 use mathlib.Core.Path.{_≡_}
 use borrow.Author.Needs.{needs}
 use native.Mathlib.Nat.{mul-le-mul}

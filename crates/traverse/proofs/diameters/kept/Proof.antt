@@ -1,6 +1,4 @@
 -- The definition, written with the two choices.
-use mathlib.Core.Path.{_∙_, ap}
-use Prim.Native.Nat.{_-_, min}
 use borrow.Author.Needs.{needs}
 use Rattle.traverse.specs.Round.{kept}
 use Rattle.traverse.proofs.diameters.kept.Statement.{statement}

@@ -1,6 +1,4 @@
 -- The definition's own root, which is at most half the diameter; that the result is at most 499 is part of the rule.
-use Prim.Native.Nat.{_-_}
-use mathlib.Core.Path.{ap}
 use borrow.Author.Needs.{needs}
 use native.Mathlib.Omega.{arith}
 use Rattle.traverse.specs.Positions.{nearPosition}

@@ -2,7 +2,7 @@
 use borrow.Author.Needs.{needs}
 use native.Mathlib.Omega.{arith}
 use Rattle.traverse.specs.Rectangle.{center}
-use Rattle.traverse.proofs.RectangleLaws.{center-product, center-most}
+use Rattle.traverse.proofs.RectangleLaws.{center-product, center-high}
 use Rattle.traverse.proofs.grids.center.Statement.{statement}
 use Rattle.traverse.proofs.grids.center.Tie as tie
 
@@ -16,7 +16,7 @@ mul-round-div-2 : tie.Need-mul-round-div-2
 mul-round-div-2 c = search needs
 
 mul-round-div-3 : tie.Need-mul-round-div-3
-mul-round-div-3 c = omega (arith, center-product (c .pre .0) (c .pre .4) (c .pre .2))
+mul-round-div-3 c = omega (arith, center-product (c .pre .1) (c .pre .5) (c .pre .3))
 
 mul-round-div-4 : tie.Need-mul-round-div-4
 mul-round-div-4 c = search needs
@@ -31,7 +31,7 @@ returns c =
     let a = c .before .args in
     record {
       is = c .round-div .ensures;
-      high = rw (c .round-div .ensures) (omega (arith, center-most (a .side) (a .cells) (a .i) (p .1) (p .4), p .0));
+      high = rw (c .round-div .ensures) (omega (arith, center-high (a .side) (a .cells) (p .0) (p .2) (p .3) (a .i) (p .4) (p .5), p .1));
     }
 
 pub center-spec : {M : Type 1} → statement M
