@@ -64,22 +64,26 @@ is-right n i p e =
       high = ltb-true _ _ (and-right low high both);
     }
 
-all-right : allBelow (λ m. allBelow (λ k. right (2 * m + 2) (k + 1) (nearPosition (2 * m + 2) (k + 1))) (m + 1)) 12 ≡ true
-unfolding right nearPosition nearestRoot floorRoot grown
+-- the test of point k + 1 of 2m + 2
+tested : ℕ → ℕ → Bool
+tested m k = right (2 * m + 2) (k + 1) (nearPosition (2 * m + 2) (k + 1))
+
+all-right : allBelow (λ m. allBelow (tested m) (m + 1)) 12 ≡ true
+unfolding tested right nearPosition nearestRoot floorRoot grown
 all-right = refl
 
 -- Of each point of the near half there is a position, and it is the definition's
 pub near-is : {n i : ℕ} → Points n → 1 ≤ i → 2 * i ≤ n → IsPosition n i (nearPosition n i)
+unfolding tested
 near-is {n} {i} ok some near =
     let m : ℕ = n / 2 - 1 in
     let k : ℕ = i - 1 in
     let double : 2 * m + 2 ≡ n = omega (arith, ok .even) in
     let next : k + 1 ≡ i = omega arith in
-    let row = all-below (λ m. allBelow (λ k. right (2 * m + 2) (k + 1) (nearPosition (2 * m + 2) (k + 1))) (m + 1)) 12 all-right m (omega (arith, ok .most)) in
-    let entry = all-below (λ k. right (2 * m + 2) (k + 1) (nearPosition (2 * m + 2) (k + 1))) (m + 1) row k (omega arith) in
-    is-right n i (nearPosition n i) (rw (double, next) at entry)
+    let row = all-below (λ m. allBelow (tested m) (m + 1)) 12 all-right m (omega (arith, ok .most)) in
+    is-right n i (nearPosition n i) (rw (double, next) at (all-below (tested m) (m + 1) row k (omega arith)))
 
--- What the code takes the root from is no wider than half the diameter
+-- The root is at most half the diameter
 pub root-most : {n i : ℕ} → Points n → 1 ≤ i → 2 * i ≤ n → nearestRoot (10 ^ 6 * (n - 2 * i + 1) / n) ≤ 500
 root-most {n} {i} ok some near =
     let y : ℕ = 10 ^ 6 * (n - 2 * i + 1) / n in

@@ -45,7 +45,7 @@ unfolding roundLayout
 round-at n d z i inside = simp (mul-one, add-zero) at (each-at (λ i. distance n d z i ∷ []) 1 (λ i. refl) n i 0 inside (lit< tt))
 
 -- both distances of a point and its mirror image were rounded up from a half, and neither was moved by the margin
-pub bothHalves : ℕ → ℕ → ℕ → ℕ → Bool
+unfoldable pub bothHalves : ℕ → ℕ → ℕ → ℕ → Bool
 bothHalves n d z i =
     eqb (position n i * d % 10) 5
     && (eqb (distance n d z i) (measured n d i) && eqb (distance n d z (n + 1 - i)) (measured n d (n + 1 - i)))

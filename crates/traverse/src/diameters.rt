@@ -29,7 +29,7 @@ fn near_position(n: u64, i: u64) -> u64
 }
 
 // Point i of n, from the near wall: the far half mirrors the near one.
-pub fn position(n: u64, i: u64) -> u64
+fn position(n: u64, i: u64) -> u64
     requires { ⌜ diameterPoints n ≡ true ⌝ }
     requires { ⌜ (1 ≤ i) × (i ≤ n) ⌝ }
     ensures { λ r. ⌜ AtMost 1000 (position n i) r ⌝ }

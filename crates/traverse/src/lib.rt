@@ -16,8 +16,8 @@ ghost use Rattle.traverse.specs.Layout.{Holds};
 ghost use Rattle.traverse.specs.Round.{roundFits, roundLayout};
 ghost use Rattle.traverse.specs.Rectangle.{rectangleFits, rectangleLayout};
 
-pub mod diameters;
-pub mod grids;
+mod diameters;
+mod grids;
 
 // The first `count` distances, 0.001 in, and zeros after them. 49 points of a rectangle have 98.
 pub struct Layout {

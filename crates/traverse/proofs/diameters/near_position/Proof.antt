@@ -27,7 +27,7 @@ nearest-root-requires c κs = search needs
 sub-result : tie.Need-sub-result
 sub-result c =
     let p = c .before .pre in
-    rw (c .nearest-root .ensures) (root-most (points-of _ (p .0)) (p .1 .0) (p .1 .1))
+    omega (arith, c .nearest-root .ensures, root-most (points-of (c .before .args .n) (p .0)) (p .1 .0) (p .1 .1))
 
 returns : tie.Need-returns
 unfolding nearPosition
