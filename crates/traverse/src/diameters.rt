@@ -19,7 +19,7 @@ const NARROW_MARGIN: u64 = 500;
 
 const WIDE_MARGIN: u64 = 1000;
 
-// Point i of n, for i up to n/2: half the diameter less the root of the area that lies inside the point.
+// Point i of n, for i up to n/2: half the diameter, 500, less the radius that has (n - 2i + 1)/n of the area inside it.
 fn near_position(n: u64, i: u64) -> u64
     requires { ⌜ diameterPoints n ≡ true ⌝ }
     requires { ⌜ (1 ≤ i) × (2 * i ≤ n) ⌝ }

@@ -35,16 +35,16 @@ pub fn first_cells(points: u16, first: u16, second: u16) -> u64
     }
 }
 
-// Cells along the second side.
+// Cells along the second side: the larger count only where it is the longer one.
 pub fn second_cells(points: u16, first: u16, second: u16) -> u64
     requires { ⌜ gridPoints points ≡ true ⌝ }
     ensures { λ r. ⌜ r ≡ secondCells points first second ⌝ }
 {
     let larger = larger_count(points);
-    if second <= first {
-        points as u64 / larger
-    } else {
+    if first < second {
         larger
+    } else {
+        points as u64 / larger
     }
 }
 

@@ -1,5 +1,5 @@
 -- Two loops, along the second side and, inside it, along the first: each turn of the inner one stores a point's two distances.
-use Prim.Native.Nat.{_-_, _≤_}
+use Prim.Native.Nat.{_-_, _≤_, _<_}
 use native.Mathlib.Omega.{arith}
 use Rattle.traverse.proofs.ListLaws.{filled-none}
 use Rattle.traverse.proofs.RectangleLaws.{RectangleOk, rectangle-ok, CellsOk, cells-ok}
@@ -29,7 +29,11 @@ cells c = rw (c .second-cells .ensures, c .before .first-cells .ensures) (cells-
 -- in a turn of the inner loop there is room for both distances
 room : (c : tie.In-loop2 Inv-loop2 μ-loop2 Inv-loop μ-loop) → c .before .loop2 .at ≤ 96
 room c =
-    let fits = row-room (cells (c .before .before .before .before)) (c .before .loop2 .inv) (c .before .before .loop-test .taken) (c .loop2-test .taken) in
+    let outer = c .before .before in
+    let counted = outer .before .before in
+    let below : outer .before .loop .j < counted .second-cells .result = omega arith in
+    let inside : c .before .loop2 .i < counted .before .first-cells .result = omega arith in
+    let fits = row-room (cells counted) (c .before .loop2 .inv) below inside in
     omega arith
 
 first-cells-requires : tie.Need-first-cells-requires Inv-loop2 μ-loop2 Inv-loop μ-loop
@@ -52,7 +56,7 @@ center-requires c κs =
     let counted = c .before .before .before .before in
     let ok = cells counted in
     let all = sides (counted .before .before) in
-    (all .firstLeast, all .firstMost, ok .columnsSome, ok .columnsFew, omega arith, omega arith)
+    omega arith
 
 cast-distances : tie.Need-cast-distances Inv-loop2 μ-loop2 Inv-loop μ-loop
 cast-distances c = omega (arith, c .center .ensures .high)
@@ -71,7 +75,7 @@ center-requires-2 c κs =
     let counted = c .before .before .before .before .before in
     let ok = cells counted in
     let all = sides (counted .before .before) in
-    (all .secondLeast, all .secondMost, ok .rowsSome, ok .rowsFew, omega arith, omega arith)
+    omega arith
 
 cast-distances-2 : tie.Need-cast-distances-2 Inv-loop2 μ-loop2 Inv-loop μ-loop
 cast-distances-2 c = omega (arith, c .center2 .ensures .high)
