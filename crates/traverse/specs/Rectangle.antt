@@ -21,6 +21,7 @@ pub record Grid : Type 0 where
   pub larger : ℕ
   pub smaller : ℕ
 
+-- a cells by b, the larger count first
 abbrev pub _by_ : ℕ → ℕ → Grid
 a by b = record { larger = a; smaller = b }
 
@@ -28,11 +29,12 @@ a by b = record { larger = a; smaller = b }
 abbrev pub grids : List Grid
 grids = (3 by 3) ∷ (4 by 3) ∷ (4 by 4) ∷ (5 by 4) ∷ (5 by 5) ∷ (6 by 5) ∷ (6 by 6) ∷ (7 by 6) ∷ (7 by 7) ∷ []
 
--- the one of them that has n cells
+-- the one of a list that has n cells
 abbrev pub withCells : ℕ → List Grid → Grid
 withCells n [] = 0 by 0
 withCells n (g ∷ gs) = cond (eqb n (g .larger * g .smaller)) g (withCells n gs)
 
+-- the grid of n points
 unfoldable pub gridOf : ℕ → Grid
 gridOf n = withCells n grids
 
