@@ -11,7 +11,7 @@ use Rattle.lines.specs.declared.Line.the-variants.{Present, Absent}
 use Rattle.text.specs.Numbers.{decimal, Wrote}
 use Rattle.text.specs.Sheets.{space, newline, valueText, lineText, linesText, noEntry}
 use Rattle.text.proofs.Decimals.{decimal-short, signed-short}
-use Rattle.text.proofs.Texts.{wrote-none, wrote-more, wrote-length}
+use Rattle.text.proofs.Texts.{wrote-none, wrote-more}
 
 pub value-short : (line : Line) → length (valueText line) ≤ 21
 unfolding valueText
@@ -50,9 +50,6 @@ pub record Listed (old : List ℕ) (at : ℕ) (entries : List Entry) (out : List
 pub listed-none : (old : List ℕ) (at : ℕ) (entries : List Entry) → at + 860 ≤ length old → Listed old at entries old at 0
 unfolding linesText
 listed-none old at entries room = record { past = omega arith; room = room; short = omega arith; is = wrote-none old at }
-
-pub listed-length : {old : List ℕ} {at : ℕ} {entries : List Entry} {out : List ℕ} {next i : ℕ} → Listed old at entries out next i → length out ≡ length old
-listed-length l = wrote-length (l .is) (omega (arith, l .past, l .room, l .short))
 
 pub listed-more : {old : List ℕ} {at : ℕ} {entries : List Entry} {out out′ : List ℕ} {next next′ i : ℕ} → Listed old at entries out next i → i < 20 → Wrote out next (lineText (i + 1) (getD entries i noEntry)) out′ next′ → Listed old at entries out′ next′ (i + 1)
 unfolding linesText

@@ -14,11 +14,7 @@ use Rattle.text.proofs.Decimals.{decimal-few, decimal-many}
 
 -- nothing written yet
 pub wrote-none : (old : List ℕ) (at : ℕ) → Wrote old at [] old at
-wrote-none old at = record { is = spliced-none old at; after = omega arith }
-
--- the buffer keeps its length
-pub wrote-length : {old : List ℕ} {at : ℕ} {text out : List ℕ} {next : ℕ} → Wrote old at text out next → at + length text ≤ length old → length out ≡ length old
-wrote-length {old} {at} {text} w room = ap length (w .is) ∙ length-spliced old at text room
+wrote-none old at = record { is = spliced-none old at; after = omega arith; kept = refl }
 
 -- a text after a text
 pub wrote-more : {old : List ℕ} {at : ℕ} {a b out out′ : List ℕ} {next next′ : ℕ} → Wrote old at a out next → Wrote out next b out′ next′ → at + length (a ++ b) ≤ length old → Wrote old at (a ++ b) out′ next′
@@ -31,17 +27,14 @@ wrote-more {old} {at} {a} {b} {out} {out′} {next} {next′} v w room =
     }
 
 -- one character
-pub wrote-byte : {old : List ℕ} {at b : ℕ} {out : List ℕ} → out ≡ spliced old at (b ∷ []) → Wrote old at (b ∷ []) out (at + 1)
-wrote-byte e = record { is = e; after = refl }
+pub wrote-byte : {old : List ℕ} {at b : ℕ} {out : List ℕ} → at < length old → out ≡ spliced old at (b ∷ []) → Wrote old at (b ∷ []) out (at + 1)
+wrote-byte {old} {at} {b} room e =
+    let fits : at + 1 ≤ length old = omega arith in
+    record { is = e; after = refl; kept = ap length e ∙ length-spliced old at (b ∷ []) fits }
 
 -- a number of one digit, and one of more
-pub wrote-few : {old : List ℕ} {at n : ℕ} {out : List ℕ} → n < 10 → out ≡ spliced old at ((48 + n) ∷ []) → Wrote old at (decimal n) out (at + 1)
-wrote-few {n = n} few e = rw (decimal-few n few) (wrote-byte e)
-
-pub wrote-many : {old : List ℕ} {at n : ℕ} {mid out : List ℕ} {last : ℕ} → 10 ≤ n → n < 2 ^ 64 → at + length (decimal n) ≤ length old → Wrote old at (decimal (n / 10)) mid last → out ≡ spliced mid last ((48 + n % 10) ∷ []) → Wrote old at (decimal n) out (last + 1)
-wrote-many {old} {at} {n} many fits room w e =
-    let step : decimal n ≡ decimal (n / 10) ++ ((48 + n % 10) ∷ []) = decimal-many n many (omega arith) in
-    rw step (wrote-more w (wrote-byte e) (rw step at room))
+pub wrote-few : {old : List ℕ} {at n : ℕ} {out : List ℕ} → n < 10 → at < length old → out ≡ spliced old at ((48 + n) ∷ []) → Wrote old at (decimal n) out (at + 1)
+wrote-few {n = n} few room e = rw (decimal-few n few) (wrote-byte room e)
 
 -- the leading digits leave room for the last one
 pub leading-room : (at n r : ℕ) → 10 ≤ n → n < 2 ^ 64 → at + length (decimal n) ≤ r → at + length (decimal (n / 10)) + 1 ≤ r
@@ -49,6 +42,12 @@ leading-room at n r many fits room =
     let step : decimal n ≡ decimal (n / 10) ++ ((48 + n % 10) ∷ []) = decimal-many n many (omega arith) in
     let size : length (decimal n) ≡ length (decimal (n / 10)) + 1 = ap length step ∙ length-append (decimal (n / 10)) ((48 + n % 10) ∷ []) in
     omega arith
+
+pub wrote-many : {old : List ℕ} {at n : ℕ} {mid out : List ℕ} {last : ℕ} → 10 ≤ n → n < 2 ^ 64 → at + length (decimal n) ≤ length old → Wrote old at (decimal (n / 10)) mid last → out ≡ spliced mid last ((48 + n % 10) ∷ []) → Wrote old at (decimal n) out (last + 1)
+wrote-many {old} {at} {n} many fits room w e =
+    let step : decimal n ≡ decimal (n / 10) ++ ((48 + n % 10) ∷ []) = decimal-many n many (omega arith) in
+    let left = leading-room at n (length old) many fits room in
+    rw step (wrote-more w (wrote-byte (omega (arith, left, w .after, w .kept)) e) (rw step at room))
 
 -- i characters of a word are copied
 pub record Copied (old : List ℕ) (at : ℕ) (word out : List ℕ) (i : ℕ) : Type 0 where
@@ -59,11 +58,6 @@ pub record Copied (old : List ℕ) (at : ℕ) (word out : List ℕ) (i : ℕ) : 
 pub copied-none : (old : List ℕ) (at : ℕ) (word : List ℕ) → at + length word ≤ length old → Copied old at word old 0
 copied-none old at word room = record { past = omega arith; room = room; is = rw (add-zero at) (wrote-none old at) }
 
-pub copied-length : {old : List ℕ} {at : ℕ} {word out : List ℕ} {i : ℕ} → Copied old at word out i → length out ≡ length old
-copied-length {old} {at} {word} {out} {i} d =
-    let size : length (take i word) ≡ i = length-take-le i word (d .past) in
-    wrote-length (d .is) (omega (arith, d .room, d .past))
-
 pub copied-more : {old : List ℕ} {at : ℕ} {word out next : List ℕ} {i : ℕ} → Copied old at word out i → i < length word → next ≡ spliced out (at + i) (getD word i 0 ∷ []) → Copied old at word next (i + 1)
 copied-more {old} {at} {word} {out} {next} {i} d inside e =
     let size : length (take i word) ≡ i = length-take-le i word (d .past) in
@@ -72,7 +66,7 @@ copied-more {old} {at} {word} {out} {next} {i} d inside e =
     record {
       past = omega arith;
       room = d .room;
-      is = rw (step, ← add-assoc at i 1) (wrote-more (d .is) (wrote-byte e) (omega (arith, d .room)));
+      is = rw (step, ← add-assoc at i 1) (wrote-more (d .is) (wrote-byte (omega (arith, d .room, d .is .kept)) e) (omega (arith, d .room)));
     }
 
 pub copied-all : {old : List ℕ} {at : ℕ} {word out : List ℕ} {i : ℕ} → Copied old at word out i → length word ≤ i → Wrote old at word out (at + i)

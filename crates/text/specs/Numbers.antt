@@ -24,7 +24,8 @@ unfoldable pub signedDecimal : ℤ → List ℕ
 signedDecimal (pos n) = decimal n
 signedDecimal (negsuc n) = 45 ∷ decimal (n + 1)
 
--- a text was written at a place: the buffer afterwards, and the place after the text
+-- a text was written at a place: the buffer afterwards, the place after the text, and the buffer's length as it was
 pub record Wrote (old : List ℕ) (at : ℕ) (text out : List ℕ) (next : ℕ) : Type 0 where
   pub is : out ≡ spliced old at text
   pub after : next ≡ at + length text
+  pub kept : length out ≡ length old

@@ -4,7 +4,7 @@ use mathlib.Core.Path.{ap}
 use native.Mathlib.Omega.{arith}
 use lib.ListN.{length}
 use Rattle.text.proofs.Decimals.{decimal-few}
-use Rattle.text.proofs.Texts.{wrote-few, wrote-many, wrote-length, leading-room}
+use Rattle.text.proofs.Texts.{wrote-few, wrote-many, leading-room}
 use borrow.Fn.Kinds.{In}
 use borrow.Fn.PlainCycle.{Measures, is, falls, and}
 use Rattle.text.proofs.numbers.put_decimal.Reads as put-decimal
@@ -63,13 +63,19 @@ put-decimal-add-result t c =
     let size = ap length (decimal-few (start .args .n) (c .before .before .before .before .if1 .taken)) in
     omega (arith, size, start .pre .1, start .good .0 .0)
 
+first-room : (t : ℕ) (c : put-decimal-lts.After-slice-known2 (put-byte-reads.Asked, put-byte-reads.Learnt, put-decimal-below t, put-decimal.Post) (put-decimal-at t) put-decimal.Post) → c .before .before .before .before .before .before .args .at < length (c .before .before .before .before .before .before .args .out .now)
+first-room t c =
+    let start = c .before .before .before .before .before .before in
+    let size = ap length (decimal-few (start .args .n) (c .before .before .before .before .if1 .taken)) in
+    omega (arith, size, start .pre .1)
+
 put-decimal-returns : (t : ℕ) → put-decimal-lts.Need-returns (
   put-byte-reads.Asked,
   put-byte-reads.Learnt,
   put-decimal-below t,
   put-decimal.Post,
 ) (put-decimal-at t) put-decimal.Post
-put-decimal-returns t c = wrote-few (c .before .before .before .before .if1 .taken) (c .before .before .put-byte .ensures)
+put-decimal-returns t c = wrote-few (c .before .before .before .before .if1 .taken) (first-room t c) (c .before .before .put-byte .ensures)
 
 put-decimal-same-length : (t : ℕ) → put-decimal-lts.Need-same-length (
   put-byte-reads.Asked,
@@ -77,7 +83,7 @@ put-decimal-same-length : (t : ℕ) → put-decimal-lts.Need-same-length (
   put-decimal-below t,
   put-decimal.Post,
 ) (put-decimal-at t) put-decimal.Post
-put-decimal-same-length t c = wrote-length (put-decimal-returns t c) (c .before .before .before .before .before .before .pre .1)
+put-decimal-same-length t c = put-decimal-returns t c .kept
 
 put-decimal-put-decimal-requires : (t : ℕ) → put-decimal-lts.Need-put-decimal-requires (
   put-byte-reads.Asked,
@@ -116,7 +122,7 @@ put-decimal-put-byte-requires-2 t c κs =
     let start = c .before .before .before .before .before .before .before in
     let room = leading-room (start .args .at) (start .args .n) _ (c .before .before .before .before .before .if1 .left) (start .fits .n .fits) (start .pre .1) in
     let w = c .before .before .before .put-decimal .ensures in
-    omega (arith, room, w .after, wrote-length w (omega (arith, room)))
+    omega (arith, room, w .after, w .kept)
 
 put-decimal-add-result-2 : (t : ℕ) → put-decimal-lts.Need-add-result-2 (
   put-byte-reads.Asked,
@@ -145,7 +151,7 @@ put-decimal-same-length-2 : (t : ℕ) → put-decimal-lts.Need-same-length-2 (
   put-decimal-below t,
   put-decimal.Post,
 ) (put-decimal-at t) put-decimal.Post
-put-decimal-same-length-2 t c = wrote-length (put-decimal-returns-2 t c) (c .before .before .before .before .before .before .before .before .before .before .pre .1)
+put-decimal-same-length-2 t c = put-decimal-returns-2 t c .kept
 
 pub +put-decimal-spec : {M : Type 1} → statement M
 +put-decimal-spec = close μ-put-decimal λ t. put-decimal-lts.spec (

@@ -9,10 +9,9 @@ use lib.ListN.{length}
 use mir.Syntax.{w64}
 use Rattle.arith.proofs.Signs.{Negative, NotNegative, negative, not-negative}
 use Rattle.output.specs.Splice.{spliced}
-use Rattle.output.proofs.Splice.{length-spliced}
 use Rattle.text.specs.Numbers.{decimal, signedDecimal, Wrote}
 use Rattle.text.proofs.Decimals.{decimal-short, decimal-fits}
-use Rattle.text.proofs.Texts.{wrote-byte, wrote-more, wrote-length}
+use Rattle.text.proofs.Texts.{wrote-byte, wrote-more}
 use Rattle.text.proofs.numbers.put_signed.Statement.{statement}
 use Rattle.text.proofs.numbers.put_signed.Tie as tie
 
@@ -24,7 +23,7 @@ not-below c = not-negative w64 _ (c .before .before .fits .value) (c .if1 .left)
 
 wrote-negative : {old : List ℕ} {at : ℕ} {z : ℤ} {mid out : List ℕ} {next : ℕ} (s : Negative w64 z) → at + 21 ≤ length old → mid ≡ spliced old at (45 ∷ []) → Wrote mid (at + 1) (decimal (s .size + 1)) out next → Wrote old at (signedDecimal z) out next
 unfolding signedDecimal
-wrote-negative s room e w = rw (s .is) (wrote-more (wrote-byte e) w (omega (arith, decimal-short (s .size + 1))))
+wrote-negative s room e w = rw (s .is) (wrote-more (wrote-byte (omega arith) e) w (omega (arith, decimal-short (s .size + 1))))
 
 wrote-positive : {old : List ℕ} {at : ℕ} {z : ℤ} {out : List ℕ} {next : ℕ} (s : NotNegative w64 z) → Wrote old at (decimal (s .size)) out next → Wrote old at (signedDecimal z) out next
 unfolding signedDecimal
@@ -45,7 +44,7 @@ add-put-decimal-2 c = let s = below (c .before .before .before .before .before) 
 put-decimal-requires : tie.Need-put-decimal-requires
 put-decimal-requires c κs =
     let start = c .before .before .before .before .before .before .before in
-    let kept = wrote-length (wrote-byte (c .before .before .before .put-byte .ensures)) (omega (arith, start .pre)) in
+    let kept = wrote-byte (omega (arith, start .pre)) (c .before .before .before .put-byte .ensures) .kept in
     decimal-fits _ _ _ (omega (arith, kept, start .pre))
 
 same-length : tie.Need-same-length

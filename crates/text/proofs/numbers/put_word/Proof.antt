@@ -2,7 +2,7 @@
 use Prim.Native.Nat.{_-_}
 use native.Mathlib.Omega.{arith}
 use lib.ListN.{length}
-use Rattle.text.proofs.Texts.{Copied, copied-none, copied-length, copied-more, copied-all}
+use Rattle.text.proofs.Texts.{Copied, copied-none, copied-more, copied-all}
 use Rattle.text.proofs.numbers.put_word.Statement.{statement}
 use Rattle.text.proofs.numbers.put_word.Tie as tie
 
@@ -24,7 +24,7 @@ shared-slice-read-put-byte c = c .before .before .loop-test .taken
 put-byte-requires : tie.Need-put-byte-requires Inv-loop μ-loop
 put-byte-requires c κs =
     let d = c .before .before .before .loop .inv in
-    omega (arith, d .room, copied-length d, c .before .before .loop-test .taken)
+    omega (arith, d .room, d .is .kept, c .before .before .loop-test .taken)
 
 add-i : tie.Need-add-i Inv-loop μ-loop
 add-i c = omega (arith, c .before .before .before .before .before .loop-test .taken, c .before .before .before .before .before .before .loop .inv .room, c .before .before .before .before .before .before .before .before .before .good .0 .0)
@@ -39,7 +39,7 @@ add-result : tie.Need-add-result Inv-loop μ-loop
 add-result c = omega (arith, c .before .loop .inv .past, c .before .loop .inv .room, c .before .before .before .before .good .0 .0)
 
 same-length : tie.Need-same-length Inv-loop μ-loop
-same-length c = copied-length (c .before .loop .inv)
+same-length c = c .before .loop .inv .is .kept
 
 returns : tie.Need-returns Inv-loop μ-loop
 returns c = copied-all (c .before .loop .inv) (c .loop-test .left)

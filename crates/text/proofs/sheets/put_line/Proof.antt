@@ -5,7 +5,6 @@ use Prim.Native.Nat.{ℕ, _+_, _≤_}
 use native.Mathlib.Omega.{arith}
 use lib.ListN.{length}
 use Rattle.text.proofs.Decimals.{decimal-short, decimal-fits}
-use Rattle.text.proofs.Texts.{wrote-length}
 use Rattle.text.proofs.SheetTexts.{value-short, wrote-line}
 use Rattle.text.proofs.sheets.put_line.Statement.{statement}
 use Rattle.text.proofs.sheets.put_line.Tie as tie
@@ -19,18 +18,13 @@ slice-aggregate-put-word c = search needs
 put-word-requires : tie.Need-put-word-requires
 put-word-requires c κs =
     let start = c .before .before .before .before .before .before .before in
-    let v = c .before .before .before .before .put-decimal .ensures in
-    let short = decimal-short (start .args .number) in
-    omega (arith, start .pre, short, v .after, wrote-length v (omega (arith, start .pre, short)))
+    omega (arith, start .pre, decimal-short (start .args .number), c .before .before .before .before .put-decimal .ensures)
 
 put-value-requires : tie.Need-put-value-requires
 put-value-requires c κs =
     let start = c .before .before .before .before .before .before .before .before .before .before .before in
-    let v = c .before .before .before .before .before .before .before .before .put-decimal .ensures in
-    let w = c .before .before .before .put-word .ensures in
-    let short = decimal-short (start .args .number) in
-    let kept = wrote-length v (omega (arith, start .pre, short)) in
-    omega (arith, start .pre, short, v .after, w .after, kept, wrote-length w (omega (arith, start .pre, short, v .after, kept)))
+    omega
+    (arith, start .pre, decimal-short (start .args .number), c .before .before .before .put-word .ensures, c .before .before .before .before .before .before .before .before .put-decimal .ensures)
 
 slice-aggregate-put-word-2 : tie.Need-slice-aggregate-put-word-2
 slice-aggregate-put-word-2 c = search needs
@@ -38,14 +32,8 @@ slice-aggregate-put-word-2 c = search needs
 put-word-requires-2 : tie.Need-put-word-requires-2
 put-word-requires-2 c κs =
     let start = c .before .before .before .before .before .before .before .before .before .before .before .before .before .before .before .before in
-    let v = c .before .before .before .before .before .before .before .before .before .before .before .before .before .put-decimal .ensures in
-    let w = c .before .before .before .before .before .before .before .before .put-word .ensures in
-    let x = c .before .before .before .before .put-value .ensures in
-    let short = decimal-short (start .args .number) in
-    let value = value-short (start .args .entry .line) in
-    let kept = wrote-length v (omega (arith, start .pre, short)) in
-    let still = wrote-length w (omega (arith, start .pre, short, v .after, kept)) in
-    omega (arith, start .pre, short, value, v .after, w .after, x .after, kept, still, wrote-length x (omega (arith, start .pre, short, value, v .after, w .after, kept, still)))
+    omega
+    (arith, start .pre, decimal-short (start .args .number), value-short (start .args .entry .line), c .before .before .before .before .put-value .ensures, c .before .before .before .before .before .before .before .before .put-word .ensures, c .before .before .before .before .before .before .before .before .before .before .before .before .before .put-decimal .ensures)
 
 same-length : tie.Need-same-length
 same-length c = search needs

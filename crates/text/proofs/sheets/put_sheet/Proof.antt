@@ -6,7 +6,7 @@ use mathlib.Core.List.{List}
 use Rattle.lines.specs.declared.Sheet.{Sheet}
 use Rattle.text.specs.Sheets.{linesText, sheetText}
 use Rattle.text.specs.Numbers.{Wrote}
-use Rattle.text.proofs.SheetTexts.{Listed, listed-none, listed-length, listed-more}
+use Rattle.text.proofs.SheetTexts.{Listed, listed-none, listed-more}
 use Rattle.text.proofs.sheets.put_sheet.Statement.{statement}
 use Rattle.text.proofs.sheets.put_sheet.Tie as tie
 
@@ -37,7 +37,7 @@ array-copy-out-put-line c = c .before .loop-test .taken
 put-line-requires : tie.Need-put-line-requires Inv-loop μ-loop
 put-line-requires c κs =
     let l = c .before .before .before .loop .inv in
-    omega (arith, l .room, l .short, l .is .after, listed-length l, c .before .before .loop-test .taken)
+    omega (arith, l .room, l .short, l .is .after, l .is .kept, c .before .before .loop-test .taken)
 
 add-i : tie.Need-add-i Inv-loop μ-loop
 add-i c = omega (arith, c .before .before .before .before .before .loop-test .taken)
@@ -49,7 +49,7 @@ loop-again : tie.Need-loop-again Inv-loop μ-loop
 loop-again c = listed-more (c .before .before .before .before .before .before .loop .inv) (c .before .before .before .before .before .loop-test .taken) (c .before .before .put-line .ensures)
 
 same-length : tie.Need-same-length Inv-loop μ-loop
-same-length c = listed-length (c .before .loop .inv)
+same-length c = c .before .loop .inv .is .kept
 
 returns : tie.Need-returns Inv-loop μ-loop
 unfolding sheetText

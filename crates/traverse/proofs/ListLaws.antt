@@ -1,0 +1,75 @@
+-- A list that grows by equal parts, and the array that a loop fills with it.
+use Prim.Native.Nat.{ℕ, zero, suc, _+_, _-_, _*_, _≤_, _<_}
+use mathlib.Core.Path.{_≡_, refl, sym, _∙_}
+use mathlib.Core.List.{List, [], _∷_, _++_, append-assoc}
+use mathlib.Core.Logic.{⊎-elim}
+use native.Mathlib.Nat.{add-assoc, suc-mul, zero-mul, mul-le-mul-right, eq-or-lt-of-le, le-of-suc-le-suc, not-suc-le-zero}
+use native.Mathlib.Numerals.{add-one}
+use native.Mathlib.Omega.{arith}
+use lib.ListN.{length, getD, set, replicate, length-append, List·getD-append}
+use lib.Seq.{set-append-seam, append-snoc, getD-append-add}
+use Rattle.traverse.specs.Layout.{eachTo, padded}
+
+-- No part, and one part more, at the code's n + 1
+pub each-none : (f : ℕ → List ℕ) → eachTo f 0 ≡ []
+unfolding eachTo
+each-none f = refl
+
+pub each-more : (f : ℕ → List ℕ) (n : ℕ) → eachTo f (n + 1) ≡ eachTo f n ++ f (n + 1)
+unfolding eachTo
+each-more f n = rw (add-one n)
+
+-- Parts of k elements each
+module _ (f : ℕ → List ℕ) (k : ℕ) (equal : (i : ℕ) → length (f i) ≡ k) where
+  pub each-length : (n : ℕ) → length (eachTo f n) ≡ n * k
+  unfolding eachTo
+  each-length zero = sym (zero-mul k)
+  each-length (suc n) =
+      length-append (eachTo f n) (f (suc n)) ∙ rw (each-length n, equal (suc n), suc-mul n k)
+
+  -- Element i of part j, both counted from 0
+  pub each-at : (n j i : ℕ) → j < n → i < k → getD (eachTo f n) (j * k + i) 0 ≡ getD (f (j + 1)) i 0
+  unfolding eachTo
+  each-at zero j i inside small = absurd (not-suc-le-zero inside)
+  each-at (suc n) j i inside small = ⊎-elim last (λ less. earlier less ∙ each-at n j i less small) (eq-or-lt-of-le (le-of-suc-le-suc inside))
+    where
+      last : j ≡ n → getD (eachTo f n ++ f (suc n)) (j * k + i) 0 ≡ getD (f (j + 1)) i 0
+      last same = rw (same, ← each-length n, getD-append-add (eachTo f n) (f (suc n)) i 0, add-one n)
+
+      earlier : j < n → getD (eachTo f n ++ f (suc n)) (j * k + i) 0 ≡ getD (eachTo f n) (j * k + i) 0
+      earlier less =
+          let size : length (eachTo f n) ≡ n * k = each-length n in
+          let more : suc j * k ≡ j * k + k = suc-mul j k in
+          let room : suc j * k ≤ n * k = mul-le-mul-right k less in
+          List·getD-append (eachTo f n) (f (suc n)) 0 (j * k + i) (omega arith)
+
+-- The next number of a list takes the first zero after it
+pad-more : (ds : List ℕ) (a : ℕ) → length ds < 98 → set (padded ds) (length ds) a ≡ padded (ds ++ (a ∷ []))
+unfolding padded
+pad-more ds a room =
+    let next : 98 - length ds ≡ suc (97 - length ds) = omega arith in
+    let size : length (ds ++ (a ∷ [])) ≡ length ds + 1 = length-append ds (a ∷ []) in
+    let rest : 98 - length (ds ++ (a ∷ [])) ≡ 97 - length ds = omega arith in
+    rw (next, set-append-seam ds 0 (replicate (97 - length ds) 0) a, rest, append-snoc ds a (replicate (97 - length ds) 0))
+
+-- The array holds ds, and `at` is the next place
+pub record Filled (ds : List ℕ) (at : ℕ) (array : List ℕ) : Type 0 where
+  pub next : at ≡ length ds
+  pub holds : array ≡ padded ds
+
+pub filled-none : Filled [] 0 (replicate 98 0)
+unfolding padded
+filled-none = record { next = refl; holds = refl }
+
+pub filled-more : {ds : List ℕ} {at : ℕ} {array : List ℕ} (a : ℕ) → Filled ds at array → at < 98 → Filled (ds ++ (a ∷ [])) (at + 1) (set array at a)
+filled-more {ds} {at} {array} a t room =
+    let inside : length ds < 98 = omega (arith, t .next) in
+    record {
+      next = omega (arith, t .next, length-append ds (a ∷ []));
+      holds = rw (t .holds, t .next) (pad-more ds a inside);
+    }
+
+-- Two numbers more, at the end of the second of two lists
+pub filled-two : (xs ys : List ℕ) {at : ℕ} {array : List ℕ} (a b : ℕ) → Filled (xs ++ ys) at array → at + 1 < 98 → Filled (xs ++ (ys ++ (a ∷ b ∷ []))) (at + 2) (set (set array at a) (at + 1) b)
+filled-two xs ys {at = at} a b t room =
+    simp (append-assoc, add-assoc) at (filled-more b (filled-more a t (omega arith)) room)

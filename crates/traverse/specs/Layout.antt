@@ -1,0 +1,25 @@
+-- The shapes of a layout's promise: the list of its distances, and the array that holds them.
+use Prim.Native.Nat.{ℕ, zero, suc, _-_, _≤_}
+use mathlib.Core.List.{List, [], _++_}
+use mathlib.Core.Path.{_≡_}
+use lib.ListN.{length, replicate}
+use Rattle.traverse.specs.declared.Layout.{Layout}
+
+-- f 1, then f 2, and so on to f n, in one list
+unfoldable pub eachTo : (ℕ → List ℕ) → ℕ → List ℕ
+eachTo f zero = []
+eachTo f (suc n) = eachTo f n ++ f (suc n)
+
+-- a list, and zeros up to 98
+unfoldable pub padded : List ℕ → List ℕ
+padded ds = ds ++ replicate (98 - length ds) 0
+
+-- a layout holds these distances and no others
+pub record Holds (ds : List ℕ) (l : Layout) : Type 0 where
+  pub count : l .count ≡ length ds
+  pub distances : l .distances ≡ padded ds
+
+-- r is the number n that a definition gives, and at most this
+pub record AtMost (most n r : ℕ) : Type 0 where
+  pub is : r ≡ n
+  pub high : r ≤ most
