@@ -13,6 +13,7 @@ use Rattle.readings.proofs.Ranges.{within-least, within-greatest}
 use Rattle.records.specs.declared.Weighing.{Weighing}
 use Rattle.records.specs.declared.Run.{Run}
 use Rattle.records.specs.Records.{noWeighing, sumTo}
+use Rattle.records.specs.InRange.{RunOk}
 use Rattle.lines.specs.declared.Value.{Value}
 use Rattle.lines.specs.declared.Value.the-variants.{Known, Missing}
 use Rattle.lines.specs.declared.Lines.{Lines}
@@ -23,7 +24,7 @@ use Rattle.certs.specs.declared.comparison.Way.the-variants.{Below, Above, Same
 use Rattle.certs.specs.Comparing.{holds}
 use Rattle.findings.specs.Grounds.{broken}
 use Rattle.findings.specs.Rules.{missing, moved, uneven, judged, ofKind, oneOfKind, lacking, certificateGrounds, lineGrounds, weighingGrounds, groundOf, placesOf}
-use Rattle.findings.specs.Listing.{brokenAt, findingAt, ruleFindings, findingsTo, findings, most, Worked}
+use Rattle.findings.specs.Listing.{brokenAt, findingAt, ruleFindings, findingsTo, findings, linesFor, findingsFor, most, Worked}
 use Rattle.findings.proofs.Filling.{rising}
 use Rattle.findings.proofs.Absent.{no-volume, no-moisture, no-gas, no-velocity, no-flow}
 
@@ -222,3 +223,8 @@ module _ (r : Run) (ch : Chosen) (l : Lines) (w : Worked r ch l) where
   pub at-most : length (findings r ch l) ≤ most
   unfolding findings
   at-most = all-fit
+
+-- with the lines that a run in range gives
+pub at-most-for : (r : Run) (ch : Chosen) → RunOk r → length (findingsFor r ch) ≤ most
+unfolding findingsFor
+at-most-for r ch ok = at-most r ch (linesFor r ch) (record { ok = ok; lines = refl })

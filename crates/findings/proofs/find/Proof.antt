@@ -40,19 +40,25 @@ places-requires c κs = search needs
 loop2-holds : tie.Need-loop2-holds Inv-loop2 μ-loop2 Inv-loop μ-loop
 loop2-holds c = (omega arith, stands-first _ _ _ (c .before .before .loop .inv .1))
 
+-- a turn of the inner loop is at one of the twenty rules and one of its places
+rule-in : (c : tie.In-loop2 Inv-loop2 μ-loop2 Inv-loop μ-loop) → c .before .before .before .before .loop .done < 20
+rule-in c = omega (arith, c .before .before .before .loop-test .taken)
+
+place-in : (c : tie.In-loop2 Inv-loop2 μ-loop2 Inv-loop μ-loop) → c .before .loop2 .i < placesOf (c .before .before .before .before .before .args .run .counts) (c .before .before .before .before .loop .done + 1)
+place-in c = rw (c .before .before .places .ensures) at (c .loop2-test .taken)
+
 broken-at-requires : tie.Need-broken-at-requires Inv-loop2 μ-loop2 Inv-loop μ-loop
 broken-at-requires c κs =
     let start = c .before .before .before .before .before in
-    let place-in : c .before .loop2 .i < placesOf (start .args .run .counts) (c .before .before .before .before .loop .done + 1) =
-    rw (c .before .before .places .ensures) at (c .loop2-test .taken) in
-    judged _ (start .args .chosen) _ (start .pre) _ _ (omega arith) (omega (arith, c .before .before .before .loop-test .taken)) place-in
+    judged _ (start .args .chosen) _ (start .pre) _ _ (omega arith) (omega (arith, rule-in c)) (place-in c)
 
 -- a broken rule finds room
 has-room : (c : tie.After-finding-at Inv-loop2 μ-loop2 Inv-loop μ-loop) → c .before .before .before .before .loop2 .count < 98
 has-room c =
     let turn = c .before .before .before in
-    let start = turn .before .before .before .before .before in
-    stands-room _ _ _ _ (all-fit _ _ _ (start .pre)) (turn .before .before .before .loop-test .taken) (rw (turn .before .before .places .ensures) at (turn .loop2-test .taken)) (c .before .before .broken-at .ensures) (c .before .if1 .taken) (turn .before .loop2 .inv .1)
+    let all = all-fit _ _ _ (turn .before .before .before .before .before .pre) in
+    stands-room _ _ _ _ all (rule-in turn) (place-in turn) (c .before .before .broken-at .ensures) (c .before .if1 .taken)
+    (turn .before .loop2 .inv .1)
 
 finding-at-requires : tie.Need-finding-at-requires Inv-loop2 μ-loop2 Inv-loop μ-loop
 finding-at-requires c κs = search needs
@@ -75,14 +81,16 @@ loop2-less c = omega arith
 loop2-again : tie.Need-loop2-again Inv-loop2 μ-loop2 Inv-loop μ-loop
 loop2-again c =
     let turn = c .before .before in
-    let start = turn .before .before .before .before .before in
+    let all = all-fit _ _ _ (turn .before .before .before .before .before .pre) in
+    let test = c .before .broken-at .ensures in
+    let so-far = turn .before .loop2 .inv .1 in
     ⊎-elim
     (λ w. (
       omega arith,
       rw (w .2, w .3)
-          (stands-found _ _ _ _ (all-fit _ _ _ (start .pre)) (turn .before .before .before .loop-test .taken) (rw (turn .before .before .places .ensures) at (turn .loop2-test .taken)) (c .before .broken-at .ensures) (w .0 .taken) (w .1 .ensures) (turn .before .loop2 .inv .1)),
+          (stands-found _ _ _ _ all (rule-in turn) (place-in turn) test (w .0 .taken) (w .1 .ensures) so-far),
     ))
-    (λ w. (omega arith, rw (w .1, w .2) (stands-passed _ _ _ _ (c .before .broken-at .ensures) (w .0 .left) (turn .before .loop2 .inv .1))))
+    (λ w. (omega arith, rw (w .1, w .2) (stands-passed _ _ _ _ test (w .0 .left) so-far)))
     (c .if1 .came)
 
 loop-less : tie.Need-loop-less Inv-loop2 μ-loop2 Inv-loop μ-loop

@@ -1,7 +1,7 @@
 -- `distance` subtracts the lower number from the higher one, and the other difference of the definition is 0.
 use native.Mathlib.Omega.{arith}
-use Rattle.certs.specs.Comparing.{distance}
 use borrow.Author.Needs.{needs}
+use Rattle.certs.specs.Comparing.{distance}
 use Rattle.certs.proofs.comparison.distance.Statement.{statement}
 use Rattle.certs.proofs.comparison.distance.Tie as tie
 

@@ -1,6 +1,6 @@
 -- `coefficient_of` is `coefficientOf`, case by case.
-use Rattle.certs.specs.Factor.{coefficientOf}
 use borrow.Author.Needs.{needs}
+use Rattle.certs.specs.Factor.{coefficientOf}
 use Rattle.certs.proofs.factor.coefficient_of.Statement.{statement}
 use Rattle.certs.proofs.factor.coefficient_of.Tie as tie
 

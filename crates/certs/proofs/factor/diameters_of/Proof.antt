@@ -1,6 +1,6 @@
 -- `diameters_of` is `diametersOf`, case by case.
-use Rattle.certs.specs.Factor.{diametersOf}
 use borrow.Author.Needs.{needs}
+use Rattle.certs.specs.Factor.{diametersOf}
 use Rattle.certs.proofs.factor.diameters_of.Statement.{statement}
 use Rattle.certs.proofs.factor.diameters_of.Tie as tie
 

@@ -1,8 +1,8 @@
 -- `factor_moved` is `factorMoved`; the two factors fit 16 bits, so twenty times their distance fits.
 use native.Mathlib.Omega.{arith}
+use borrow.Author.Needs.{needs}
 use Rattle.certs.specs.Comparing.{distance}
 use Rattle.certs.specs.Factor.{factorMoved}
-use borrow.Author.Needs.{needs}
 use Rattle.certs.proofs.factor.factor_moved.Statement.{statement}
 use Rattle.certs.proofs.factor.factor_moved.Tie as tie
 
