@@ -4,4 +4,5 @@ pub mod ClearRuns
 pub mod Examples
 pub mod LookBack
 pub mod Numbers
+pub mod Reach
 pub mod WholeFile
