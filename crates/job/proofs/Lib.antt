@@ -2,6 +2,7 @@
 pub mod ClearJobs
 pub mod ClearRuns
 pub mod Examples
+pub mod Fronts
 pub mod LookBack
 pub mod Numbers
 pub mod Reach
