@@ -1,4 +1,5 @@
 -- The laws of a job, which the layers above cite.
+pub mod Beyond
 pub mod ClearJobs
 pub mod ClearRuns
 pub mod Examples
