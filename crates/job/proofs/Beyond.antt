@@ -19,14 +19,14 @@ use Rattle.records.specs.declared.Point.{Point}
 use Rattle.records.specs.declared.Segment.{Segment}
 use Rattle.records.proofs.Sums.{sum-ext}
 use Rattle.parts.specs.declared.header.RunHeader.{RunHeader}
-use Rattle.parts.specs.Values.{header, headerAt, pointPlace, segmentPlace, runEnd}
+use Rattle.parts.specs.Values.{headerAt, pointPlace, segmentPlace, runEnd}
 use Rattle.parts.specs.Rows.{certificateRows, headerRows, pointRows, segmentRows, recordTrouble}
 use Rattle.parts.proofs.Layouts.{whole-at}
 use Rattle.job.specs.Places.{certificateCountOf, runCountOf, certificatePlace, certificateOf, nextStart, runStart}
-use Rattle.job.specs.Troubles.{fileTrouble, sameCertificate, stands, entryTrouble, certificatesTrouble, goodSeconds, partsTrouble, numberBefore, runTrouble, runsTrouble, endTrouble, jobTrouble}
+use Rattle.job.specs.Troubles.{fileTrouble, sameCertificate, entryTrouble, certificatesTrouble, goodSeconds, partsTrouble, numberBefore, runTrouble, runsTrouble, endTrouble, jobTrouble}
 use Rattle.job.proofs.Fronts.{Front, front-of, front-same, certificate-count-front, run-count-front, file-rows-front, certificate-front, header-front, point-front, segment-front, weighing-rows-front}
 use Rattle.job.proofs.LookBack.{any-ext}
-use Rattle.job.proofs.Reach.{longestRun, roomy, start-reach}
+use Rattle.job.proofs.Reach.{longestRun, longestJob, Few, few-parts, start-reach}
 use Rattle.job.proofs.WholeFile.{certificate-count, run-count}
 
 -- The same troubles
@@ -51,8 +51,8 @@ left-over s end h = rw (lt-leb (length s) end h)
 
 -- Two files with the bytes of the longest job in common, and some byte after them
 
-module _ (p a b : List ℕ) (whole : length p ≡ 17161) (more : 1 ≤ length a) (other : 1 ≤ length b) where
-  same-at : {A : Type 0} {size : ℕ} {f : List ℕ → A} → Front size f → (at : ℕ) → at + size ≤ 17161 → f (drop at (p ++ a)) ≡ f (drop at (p ++ b))
+module _ (p a b : List ℕ) (whole : length p ≡ longestJob) (more : 1 ≤ length a) (other : 1 ≤ length b) where
+  same-at : {A : Type 0} {size : ℕ} {f : List ℕ → A} → Front size f → (at : ℕ) → at + size ≤ longestJob → f (drop at (p ++ a)) ≡ f (drop at (p ++ b))
   same-at front at h = front-same front p a b at (rw whole h)
 
   -- every record is complete, and its rows are the same
@@ -60,7 +60,7 @@ module _ (p a b : List ℕ) (whole : length p ≡ 17161) (more : 1 ≤ length a)
       {size : ℕ} {f : List ℕ → List Row}
       → Front size f
       → (at : ℕ)
-      → at + size ≤ 17161
+      → at + size ≤ longestJob
       → recordTrouble (p ++ a) at size (f (drop at (p ++ a))) ≡ recordTrouble (p ++ b) at size (f (drop at (p ++ b)))
   record-same {size} {f} front at h =
       let left : size ≤ length (drop at (p ++ a)) = omega (arith, length-drop at (p ++ a), length-append p a) in
@@ -73,7 +73,7 @@ module _ (p a b : List ℕ) (whole : length p ≡ 17161) (more : 1 ≤ length a)
       {size : ℕ} {f : List ℕ → List Row}
       → Front size f
       → (at n : ℕ)
-      → at + size * n ≤ 17161
+      → at + size * n ≤ longestJob
       → upTo (λ i. recordTrouble (p ++ a) (at + size * i) size (f (drop (at + size * i) (p ++ a)))) n
       ≡ upTo (λ i. recordTrouble (p ++ b) (at + size * i) size (f (drop (at + size * i) (p ++ b)))) n
   row-same {size} {f} front at n h =
@@ -103,7 +103,7 @@ module _ (p a b : List ℕ) (whole : length p ≡ 17161) (more : 1 ≤ length a)
       first-same _ _ _ (record-same (front-of certificateRows certificate-front) (certificatePlace k) (omega arith))
       (λ own.
       let earlier = any-ext _ _ k (λ j l. ap₂ sameCertificate (certificate-same j (lt-trans l h)) (certificate-same k h)) in
-      ap (λ (stands : Bool). judged (not stands) repeated (certificatePlace k)) earlier)
+      ap (λ (stood : Bool). judged (not stood) repeated (certificatePlace k)) earlier)
 
   certificates-same : fileTrouble (p ++ a) ≡ Clear → certificatesTrouble (p ++ a) ≡ certificatesTrouble (p ++ b)
   certificates-same file =
@@ -112,37 +112,36 @@ module _ (p a b : List ℕ) (whole : length p ≡ 17161) (more : 1 ≤ length a)
 
   -- Runs
 
-  header-same : (start : ℕ) → start + longestRun ≤ 17161 → headerAt (p ++ a) start ≡ headerAt (p ++ b) start
+  header-same : (start : ℕ) → start + longestRun ≤ longestJob → headerAt (p ++ a) start ≡ headerAt (p ++ b) start
   header-same start h = same-at header-front start (omega arith)
 
-  seconds-same : (start : ℕ) (n : Counts) → start + longestRun ≤ 17161 → n .points ≤ 64 → n .segments ≤ 16 → goodSeconds (p ++ a) start n ≡ goodSeconds (p ++ b) start n
-  seconds-same start n h points segments =
+  seconds-same : (start : ℕ) (n : Counts) → start + longestRun ≤ longestJob → Few n → goodSeconds (p ++ a) start n ≡ goodSeconds (p ++ b) start n
+  seconds-same start n h few =
       ap₂ (λ (x y : ℕ). totalSeconds x && eqb y x)
       (sum-ext _ _ (n .points) (λ i l. same-at (front-of (λ (x : Point). x .seconds) point-front) (pointPlace start i) (omega arith)))
       (sum-ext _ _ (n .segments) (λ i l. same-at (front-of (λ (x : Segment). x .seconds) segment-front) (segmentPlace start n i) (omega arith)))
 
-  parts-same : (start : ℕ) (n : Counts) → start + longestRun ≤ 17161 → n .points ≤ 64 → n .segments ≤ 16 → n .weighings ≤ 8 → partsTrouble (p ++ a) start n ≡ partsTrouble (p ++ b) start n
+  parts-same : (start : ℕ) (n : Counts) → start + longestRun ≤ longestJob → Few n → partsTrouble (p ++ a) start n ≡ partsTrouble (p ++ b) start n
   unfolding partsTrouble
-  parts-same start n h points segments weighings =
+  parts-same start n h few =
       first-same _ _ _ (row-same (front-of pointRows point-front) (start + 64) (n .points) (omega arith))
       (λ clear.
       first-same _ _ _ (row-same (front-of segmentRows segment-front) (pointPlace start (n .points)) (n .segments) (omega arith))
       (λ clear.
       first-same _ _ _ (row-same weighing-rows-front (segmentPlace start n (n .segments)) (n .weighings) (omega arith))
-      (λ clear. ap (λ (ok : Bool). judged ok wrongSeconds start) (seconds-same start n h points segments))))
+      (λ clear. ap (λ (ok : Bool). judged ok wrongSeconds start) (seconds-same start n h few))))
 
-  run-same : (start lower : ℕ) → start + longestRun ≤ 17161 → runTrouble (p ++ a) start lower ≡ runTrouble (p ++ b) start lower
+  run-same : (start lower : ℕ) → start + longestRun ≤ longestJob → runTrouble (p ++ a) start lower ≡ runTrouble (p ++ b) start lower
   unfolding runTrouble
   run-same start lower h =
       first-same _ _ _ (record-same (front-of headerRows header-front) start (omega arith))
       (λ own.
-      let room = roomy (p ++ a) start own in
-      ap (first _) (parts-same start (headerAt (p ++ a) start .counts) h (room .points) (room .segments) (room .weighings))
+      ap (first _) (parts-same start (headerAt (p ++ a) start .counts) h (few-parts (p ++ a) start own))
       ∙ ap (λ (x : RunHeader). first (judged (ltb lower (x .number)) repeated start) (partsTrouble (p ++ b) start (x .counts))) (header-same start h))
 
-  -- where a run starts if those before it are clear
+  -- a run starts at the same place if those before it are clear
   module _ (file : fileTrouble (p ++ a) ≡ Clear) where
-    start-room : (k : ℕ) → k < 16 → runsTrouble (p ++ a) k ≡ Clear → runStart (p ++ a) k + longestRun ≤ 17161
+    start-room : (k : ℕ) → k < 16 → runsTrouble (p ++ a) k ≡ Clear → runStart (p ++ a) k + longestRun ≤ longestJob
     start-room k h clear = omega (arith, start-reach (p ++ a) file k clear)
 
     start-same : (k : ℕ) → k ≤ 16 → runsTrouble (p ++ a) k ≡ Clear → runStart (p ++ a) k ≡ runStart (p ++ b) k
@@ -190,13 +189,13 @@ module _ (p a b : List ℕ) (whole : length p ≡ 17161) (more : 1 ≤ length a)
 -- The answer hangs on the first 17,162 bytes alone: where the file goes on ..
 longer : (s : List ℕ) (m : ℕ) → 17162 ≤ m → m < length s → jobTrouble (take m s) ≡ jobTrouble s
 longer s m h long =
-    let p = take 17161 s in
-    let whole : length p ≡ 17161 = length-take-le 17161 s (omega arith) in
+    let p = take longestJob s in
+    let whole : length p ≡ longestJob = length-take-le longestJob s (omega arith) in
     let cut : length (take m s) ≡ m = length-take-le m s (omega arith) in
-    let front : take 17161 (take m s) ≡ p = take-take 17161 m s (omega arith) in
-    ap jobTrouble (sym (take-append-drop 17161 (take m s)) ∙ ap (λ (q : List ℕ). q ++ drop 17161 (take m s)) front)
-    ∙ beyond-same p (drop 17161 (take m s)) (drop 17161 s) whole (omega (arith, length-drop 17161 (take m s))) (omega (arith, length-drop 17161 s))
-    ∙ ap jobTrouble (take-append-drop 17161 s)
+    let front : take longestJob (take m s) ≡ p = take-take longestJob m s (omega arith) in
+    ap jobTrouble (sym (take-append-drop longestJob (take m s)) ∙ ap (λ (q : List ℕ). q ++ drop longestJob (take m s)) front)
+    ∙ beyond-same p (drop longestJob (take m s)) (drop longestJob s) whole (omega (arith, length-drop longestJob (take m s))) (omega (arith, length-drop longestJob s))
+    ∙ ap jobTrouble (take-append-drop longestJob s)
 
 -- .. and where it does not
 pub prefix : (s : List ℕ) (m : ℕ) → 17162 ≤ m → jobTrouble (take m s) ≡ jobTrouble s

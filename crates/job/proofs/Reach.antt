@@ -13,6 +13,7 @@ use Rattle.fields.specs.declared.trouble.Trouble.the-variants.{Clear, At}
 use Rattle.fields.specs.Trouble.{first, judged, incomplete, repeated, wrongSeconds, leftOver, Row, checks, placeOf, from, upTo}
 use Rattle.fields.proofs.FirstTrouble.{each, clear-left, each-clear, checks-reach}
 use Rattle.readings.proofs.Ranges.{within-greatest}
+use Rattle.records.specs.declared.Counts.{Counts}
 use Rattle.parts.specs.Values.{headerAt}
 use Rattle.parts.specs.Rows.{headerRows, recordTrouble, headerTrouble}
 use Rattle.parts.proofs.Layouts.{good-at}
@@ -72,14 +73,15 @@ row-reach s at size rows n {m} low room =
 abbrev pub longestRun : ℕ
 longestRun = 1008
 
--- a run's 64 bytes without trouble: no more of each than that
-pub record Roomy (s : List ℕ) (start : ℕ) : Type 0 where
-  pub points : headerAt s start .counts .points ≤ 64
-  pub segments : headerAt s start .counts .segments ≤ 16
-  pub weighings : headerAt s start .counts .weighings ≤ 8
+-- no more of each than that
+pub record Few (n : Counts) : Type 0 where
+  pub points : n .points ≤ 64
+  pub segments : n .segments ≤ 16
+  pub weighings : n .weighings ≤ 8
 
-pub roomy : (s : List ℕ) (start : ℕ) → headerTrouble s start ≡ Clear → Roomy s start
-roomy s start e =
+-- as a run's 64 bytes say, if they are without trouble
+pub few-parts : (s : List ℕ) (start : ℕ) → headerTrouble s start ≡ Clear → Few (headerAt s start .counts)
+few-parts s start e =
     let good = good-at s start 64 (headerRows (headerAt s start)) e .1 .1 .1 .1 .1 .1 .1 .1 .1 .1 .1 .1 .1 .1 .1 .1 .1 .1 .1 .1 in
     record {
       points = within-greatest 1 64 _ (good .0);
@@ -93,7 +95,7 @@ run-reach s start lower {m} room =
     first-reach _ _ (record-reach s start 64 _ refl (omega arith))
     (λ header.
     let n = headerAt s start .counts in
-    let r = roomy s start header in
+    let few = few-parts s start header in
     first-reach _ _ (judged-reach (ltb lower (headerAt s start .number)) repeated start (omega arith))
     (λ above.
     first-reach _ _ (row-reach s _ 12 _ (n .points) (λ i. refl) (omega arith))
@@ -109,27 +111,31 @@ unfolding runStart upTo
 start-reach s e zero clear = omega (arith, certificate-count s e)
 start-reach s e (suc k) clear =
     let before = start-reach s e k (clear-left _ _ clear) in
-    let r = roomy s (runStart s k) (run-clear s (runStart s k) (numberBefore s k) (each-clear _ (suc k) clear k (lt-suc-self k)) .header) in
+    let few = few-parts s (runStart s k) (run-clear s (runStart s k) (numberBefore s k) (each-clear _ (suc k) clear k (lt-suc-self k)) .header) in
     omega (arith, mul-suc longestRun k)
 
 -- The whole file
+
+-- the longest: the header, 64 certificates and 16 such runs
+abbrev pub longestJob : ℕ
+longestJob = 17161
 
 entry-reach : (s : List ℕ) (k : ℕ) {m : ℕ} → certificatePlace k + 16 ≤ m → placeOf (entryTrouble s k) ≤ m
 entry-reach s k room =
     first-reach _ _ (record-reach s (certificatePlace k) 16 _ refl room)
     (λ own. judged-reach (not (stands s k)) repeated (certificatePlace k) (omega arith))
 
-job-reach : (s : List ℕ) → placeOf (jobTrouble s) ≤ 17161
+job-reach : (s : List ℕ) → placeOf (jobTrouble s) ≤ longestJob
 unfolding jobTrouble
 job-reach s =
     first-reach _ _ (record-reach s 0 9 _ refl (lit≤ tt))
     (λ file.
-    let few = certificate-count s file in
-    let some = run-count s file in
+    let certificates = certificate-count s file in
+    let runs = run-count s file in
     first-reach _ _ (up-reach (entryTrouble s) _ (λ k h clear. entry-reach s k (omega arith)))
-    (λ certificates.
+    (λ held.
     first-reach _ _ (up-reach _ _ (λ k h clear. run-reach s (runStart s k) (numberBefore s k) (omega (arith, start-reach s file k clear))))
-    (λ runs. judged-reach (leb (length s) (runStart s (runCountOf s))) leftOver _ (omega (arith, start-reach s file _ runs)))))
+    (λ walked. judged-reach (leb (length s) (runStart s (runCountOf s))) leftOver _ (omega (arith, start-reach s file _ walked)))))
 
 pub places : (s : List ℕ) {n p : ℕ} → jobTrouble s ≡ At n p → p ≤ 17161
-places s e = subst (λ (t : Trouble). placeOf t ≤ 17161) e (job-reach s)
+places s e = subst (λ (t : Trouble). placeOf t ≤ longestJob) e (job-reach s)
