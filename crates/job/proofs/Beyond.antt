@@ -1,25 +1,24 @@
 -- What stands past the longest job never changes the answer: every byte that is looked at lies within it, every record that begins there is complete, and bytes are left over.
 use Prim.Native.Nat.{ℕ, zero, suc, _+_, _*_, _≤_, _<_}
 use mathlib.Core.Path.{_≡_, refl, sym, _∙_, ap, ap₂}
-use mathlib.Core.Bool.{Bool, true, false, not, _&&_}
+use mathlib.Core.Bool.{Bool, true, false, not}
 use mathlib.Core.List.{List, _++_}
 use native.Mathlib.Nat.{mul-suc, mul-le-mul-left, lt-trans, lt-suc-self}
 use native.Mathlib.Omega.{arith}
 use borrow.Author.Tests.{leb-true, leb-false, lt-leb}
-use lib.Dec.{leb, ltb, eqb, lit≤}
+use lib.Dec.{leb, ltb, lit≤}
 use lib.ListN.{length, drop, take, length-drop, length-append, take-append-drop}
 use lib.Seq.{take-all, take-take, length-take-le}
 use Rattle.fields.specs.declared.trouble.Trouble.{Trouble}
 use Rattle.fields.specs.declared.trouble.Trouble.the-variants.{Clear, At}
 use Rattle.fields.specs.Trouble.{first, judged, repeated, wrongSeconds, leftOver, Row, checks, from, upTo}
 use Rattle.fields.proofs.FirstTrouble.{clear-left}
-use Rattle.readings.specs.Ranges.{totalSeconds}
 use Rattle.records.specs.declared.Counts.{Counts}
 use Rattle.records.specs.declared.Point.{Point}
 use Rattle.records.specs.declared.Segment.{Segment}
 use Rattle.records.proofs.Sums.{sum-ext}
 use Rattle.parts.specs.declared.header.RunHeader.{RunHeader}
-use Rattle.parts.specs.Values.{headerAt, pointPlace, segmentPlace, runEnd}
+use Rattle.parts.specs.Values.{headerAt, pointPlace, segmentPlace, pointTotal, segmentTotal, runEnd}
 use Rattle.parts.specs.Rows.{certificateRows, headerRows, pointRows, segmentRows, recordTrouble}
 use Rattle.parts.proofs.Layouts.{whole-at}
 use Rattle.job.specs.Places.{certificateCountOf, runCountOf, certificatePlace, certificateOf, nextStart, runStart}
@@ -115,11 +114,14 @@ module _ (p a b : List ℕ) (whole : length p ≡ longestJob) (more : 1 ≤ leng
   header-same : (start : ℕ) → start + longestRun ≤ longestJob → headerAt (p ++ a) start ≡ headerAt (p ++ b) start
   header-same start h = same-at header-front start (omega arith)
 
+  point-total-same : (start : ℕ) (n : Counts) → start + longestRun ≤ longestJob → Few n → pointTotal (p ++ a) start n ≡ pointTotal (p ++ b) start n
+  point-total-same start n h few = sum-ext _ _ (n .points) (λ i l. same-at (front-of (λ (x : Point). x .seconds) point-front) (pointPlace start i) (omega arith))
+
+  segment-total-same : (start : ℕ) (n : Counts) → start + longestRun ≤ longestJob → Few n → segmentTotal (p ++ a) start n ≡ segmentTotal (p ++ b) start n
+  segment-total-same start n h few = sum-ext _ _ (n .segments) (λ i l. same-at (front-of (λ (x : Segment). x .seconds) segment-front) (segmentPlace start n i) (omega arith))
+
   seconds-same : (start : ℕ) (n : Counts) → start + longestRun ≤ longestJob → Few n → goodSeconds (p ++ a) start n ≡ goodSeconds (p ++ b) start n
-  seconds-same start n h few =
-      ap₂ (λ (x y : ℕ). totalSeconds x && eqb y x)
-      (sum-ext _ _ (n .points) (λ i l. same-at (front-of (λ (x : Point). x .seconds) point-front) (pointPlace start i) (omega arith)))
-      (sum-ext _ _ (n .segments) (λ i l. same-at (front-of (λ (x : Segment). x .seconds) segment-front) (segmentPlace start n i) (omega arith)))
+  seconds-same start n h few = rw (point-total-same start n h few, segment-total-same start n h few)
 
   parts-same : (start : ℕ) (n : Counts) → start + longestRun ≤ longestJob → Few n → partsTrouble (p ++ a) start n ≡ partsTrouble (p ++ b) start n
   unfolding partsTrouble
