@@ -1,0 +1,77 @@
+-- A record's values and rows hang on its own bytes alone, by computation: the same front of a file, the same record, whatever follows.
+use Prim.Native.Nat.{ℕ, zero, suc, _+_, _≤_}
+use mathlib.Core.Path.{_≡_, refl, sym, _∙_, ap}
+use mathlib.Core.List.{List, [], _∷_, _++_}
+use native.Mathlib.Nat.{le-of-suc-le-suc}
+use native.Mathlib.Omega.{arith}
+use lib.ListN.{length, getD, drop, length-drop}
+use lib.Seq.{drop-append-le}
+use Rattle.fields.specs.Numbers.{byteAt, u16At, u32At, i16At}
+use Rattle.parts.specs.Values.{certificate, header, point, segment, weighing}
+use Rattle.parts.specs.Rows.{weighingRows}
+use Rattle.job.specs.Places.{certificateCountOf, runCountOf}
+use Rattle.job.specs.Troubles.{fileRows}
+
+-- c 0, .., c (n - 1), and then the rest
+abbrev laid : ℕ → (ℕ → ℕ) → List ℕ → List ℕ
+laid zero c rest = rest
+laid (suc n) c rest = c 0 ∷ laid n (λ i. c (suc i)) rest
+
+laid-front : (n : ℕ) (q a : List ℕ) → n ≤ length q → q ++ a ≡ laid n (λ i. getD q i 0) (drop n q ++ a)
+laid-front zero q a h = refl
+laid-front (suc n) [] a h = absurd (omega arith)
+laid-front (suc n) (x ∷ q) a h = ap (λ (l : List ℕ). x ∷ l) (laid-front n q a (le-of-suc-le-suc h))
+
+-- f looks at no byte past the first n
+pub record Front {A : Type 0} (n : ℕ) (f : List ℕ → A) : Type 0 where
+  pub alone : (c : ℕ → ℕ) (r t : List ℕ) → f (laid n c r) ≡ f (laid n c t)
+
+-- nor does what is made of it
+pub front-of : {A B : Type 0} (g : A → B) {n : ℕ} {f : List ℕ → A} → Front n f → Front n (λ t. g (f t))
+front-of g front = record { alone = λ c r t. ap g (front .alone c r t) }
+
+-- at a place where n bytes of a common front are left, it is the same
+pub front-same : {A : Type 0} {n : ℕ} {f : List ℕ → A} → Front n f → (p a b : List ℕ) (at : ℕ) → at + n ≤ length p → f (drop at (p ++ a)) ≡ f (drop at (p ++ b))
+front-same {n = n} {f = f} front p a b at h =
+    let within : at ≤ length p = omega arith in
+    let left : n ≤ length (drop at p) = omega (arith, length-drop at p) in
+    ap f (drop-append-le at p a within ∙ laid-front n (drop at p) a left)
+    ∙ front .alone _ _ _
+    ∙ ap f (sym (drop-append-le at p b within ∙ laid-front n (drop at p) b left))
+
+-- The header
+
+pub certificate-count-front : Front 9 certificateCountOf
+unfolding u16At
+certificate-count-front = record { alone = λ c r t. refl }
+
+pub run-count-front : Front 9 runCountOf
+unfolding u16At
+run-count-front = record { alone = λ c r t. refl }
+
+pub file-rows-front : Front 9 fileRows
+unfolding u16At
+file-rows-front = record { alone = λ c r t. refl }
+
+-- The records
+
+pub certificate-front : Front 16 certificate
+unfolding u16At u32At
+certificate-front = record { alone = λ c r t. refl }
+
+pub header-front : Front 64 header
+unfolding u16At u32At i16At
+header-front = record { alone = λ c r t. refl }
+
+pub point-front : Front 12 point
+unfolding u16At i16At
+point-front = record { alone = λ c r t. refl }
+
+pub segment-front : Front 4 segment
+unfolding u16At
+segment-front = record { alone = λ c r t. refl }
+
+-- with the byte that is not used
+pub weighing-rows-front : Front 14 (λ t. weighingRows (weighing t) (byteAt t 1))
+unfolding u16At u32At
+weighing-rows-front = record { alone = λ c r t. refl }
