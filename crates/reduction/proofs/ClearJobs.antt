@@ -61,10 +61,10 @@ module _ (s : List ℕ) (j : Job) (ok : ClearJob s j) where
       each i inside =
           let c = clear-certificate s (ok .clear) i inside in
           rw (held-of i inside)
-          (record
-          { factor = c .factor
-          ; coefficient = c .coefficient
-          ; diameters = λ e. record { first = c .firstDiameter e; second = c .secondDiameter e; third = c .thirdDiameter e }
+          (record {
+            factor = c .factor;
+            coefficient = c .coefficient;
+            diameters = λ e. record { first = c .firstDiameter e; second = c .secondDiameter e; third = c .thirdDiameter e };
           })
 
   pub workable : (k : ℕ) → k < runCountOf s → Workable (runOf s k) (j .held) (j .certificates)
@@ -83,11 +83,11 @@ pub chosenFor-ext : (f g : ℕ → Certificate) (n : ℕ) (r : Run) → ((i : �
 unfolding chosenFor
 chosenFor-ext f g n r same =
     λ i.
-    record
-    { before = chosen-ext false meter (r .meter) (r .day) f g n same i
-    ; after = chosen-ext true meter (r .meter) (r .day) f g n same i
-    ; pitot = chosen-ext false pitot (r .pitot) (r .day) f g n same i
-    ; nozzle = chosen-ext false nozzle (r .nozzle) (r .day) f g n same i
+    record {
+      before = chosen-ext false meter (r .meter) (r .day) f g n same i;
+      after = chosen-ext true meter (r .meter) (r .day) f g n same i;
+      pitot = chosen-ext false pitot (r .pitot) (r .day) f g n same i;
+      nozzle = chosen-ext false nozzle (r .nozzle) (r .day) f g n same i;
     }
 
 -- the search for a run by its number has passed k runs

@@ -29,11 +29,11 @@ module _ (r : Run) (held : List Certificate) (count : ℕ) (ok : Workable r held
   pub lines-workable : {ch : Chosen} {y cp : Value} {nozzle : Diameters} → ch ≡ chosenFor (certificateOf held) count r → y ≡ factorOf ch → cp ≡ coefficientOf ch → nozzle ≡ diametersOf ch → WorkableLines r y cp nozzle
   lines-workable {ch} ec ey ecp en =
       let chosen : ChosenOk ch = subst⁻¹ ChosenOk ec (chosen-in-range (certificateOf held) count r (ok .certificates)) in
-      record
-      { run = ok .run
-      ; factor = rw ey (factor-range ch chosen)
-      ; coefficient = rw ecp (coefficient-range ch chosen)
-      ; diameters = rw en (record { measured = diameters-range ch chosen .measured })
+      record {
+        run = ok .run;
+        factor = rw ey (factor-range ch chosen);
+        coefficient = rw ecp (coefficient-range ch chosen);
+        diameters = rw en (record { measured = diameters-range ch chosen .measured });
       }
 
 -- the findings take the lines that the chosen certificates give

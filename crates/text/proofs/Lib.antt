@@ -2,3 +2,4 @@
 pub mod Decimals
 pub mod Texts
 pub mod SheetTexts
+pub mod RunTexts

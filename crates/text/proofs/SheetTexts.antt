@@ -8,8 +8,9 @@ use lib.ListN.{length, getD, length-append}
 use Rattle.lines.specs.declared.Entry.{Entry}
 use Rattle.lines.specs.declared.Line.{Line}
 use Rattle.lines.specs.declared.Line.the-variants.{Present, Absent}
+use Rattle.lines.specs.declared.Sheet.{Sheet}
 use Rattle.text.specs.Numbers.{decimal, Wrote}
-use Rattle.text.specs.Sheets.{space, newline, valueText, lineText, linesText, noEntry}
+use Rattle.text.specs.Sheets.{space, newline, valueText, lineText, linesText, noEntry, sheetText}
 use Rattle.text.proofs.Decimals.{decimal-short, signed-short}
 use Rattle.text.proofs.Texts.{wrote-none, wrote-more}
 
@@ -62,3 +63,14 @@ listed-more {old} {at} {entries} {i = i} l inside w =
       short = rw (add-one i) (omega (arith, l .short));
       is = rw (add-one i) (wrote-more (l .is) w (omega (arith, l .room, l .short)));
     }
+
+lines-short : (entries : List Entry) (n : ℕ) → length (linesText entries n) ≤ n * 43
+unfolding linesText
+lines-short entries zero = omega arith
+lines-short entries (suc n) =
+    let size = length-append (linesText entries n) (lineText (n + 1) (getD entries n noEntry)) in
+    omega (arith, size, lines-short entries n, line-short (n + 1) (getD entries n noEntry))
+
+pub sheet-short : (sheet : Sheet) → length (sheetText sheet) ≤ 860
+unfolding sheetText
+sheet-short sheet = lines-short (sheet .entries) 20

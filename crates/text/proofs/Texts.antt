@@ -24,6 +24,7 @@ wrote-more {old} {at} {a} {b} {out} {out′} {next} {next′} v w room =
     record {
       is = w .is ∙ rw (v .is, v .after) (spliced-more old at a b fits);
       after = omega (arith, v .after, w .after);
+      kept = w .kept ∙ v .kept;
     }
 
 -- one character

@@ -42,10 +42,11 @@ loop-again : tie.Need-loop-again Inv-loop μ-loop
 loop-again c =
     let start = c .before .before .before .before .before .before .before in
     let inside = c .before .before .before .loop-test .taken in
-    let place = start-of _ _ (start .pre) _ (rw (count-of-runs _ _ (start .pre)) at inside) in
-    ( omega (arith, inside)
-    , sought-more _ _ _ _ (c .before .before .before .before .loop .inv .1) place (c .before .u16-at .ensures ∙ ap (λ t. u16At t 0) (c .before .before .tail .ensures))
-      (⊎-elim (λ w. inl (w .0 .taken, w .1)) (λ w. inr (w .0 .left, w .1)) (c .if1 .came)))
+    let place = start-of _ _ (start .pre) _ (rw (count-of-runs _ _ (start .pre)) at inside) in (
+      omega (arith, inside),
+      sought-more _ _ _ _ (c .before .before .before .before .loop .inv .1) place (c .before .u16-at .ensures ∙ ap (λ t. u16At t 0) (c .before .before .tail .ensures))
+          (⊎-elim (λ w. inl (w .0 .taken, w .1)) (λ w. inr (w .0 .left, w .1)) (c .if1 .came)),
+    )
 
 returns : tie.Need-returns Inv-loop μ-loop
 returns c =

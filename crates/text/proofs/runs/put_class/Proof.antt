@@ -1,0 +1,45 @@
+-- By the class.
+use borrow.Author.Needs.{needs}
+use borrow.Author.Tests.{eq-eqb, ne-eqb}
+use Rattle.text.specs.Runs.{className}
+use Rattle.text.proofs.runs.put_class.Statement.{statement}
+use Rattle.text.proofs.runs.put_class.Tie as tie
+
+slice-aggregate-put-word : tie.Need-slice-aggregate-put-word
+slice-aggregate-put-word c = search needs
+
+put-word-requires : tie.Need-put-word-requires
+put-word-requires c κs = search needs
+
+same-length : tie.Need-same-length
+same-length c = search needs
+
+returns : tie.Need-returns
+unfolding className
+returns c = rw (eq-eqb _ _ (c .before .before .before .before .before .if1 .taken)) (c .before .before .put-word .ensures)
+
+slice-aggregate-put-word-2 : tie.Need-slice-aggregate-put-word-2
+slice-aggregate-put-word-2 c = search needs
+
+put-word-requires-2 : tie.Need-put-word-requires-2
+put-word-requires-2 c κs = search needs
+
+same-length-2 : tie.Need-same-length-2
+same-length-2 c = search needs
+
+returns-2 : tie.Need-returns-2
+unfolding className
+returns-2 c = rw (ne-eqb _ _ (c .before .before .before .before .before .if1 .left)) (c .before .before .put-word2 .ensures)
+
+pub put-class-spec : {M : Type 1} → statement M
+put-class-spec =
+    tie.close
+    (tie.spec
+    slice-aggregate-put-word
+    put-word-requires
+    same-length
+    returns
+    slice-aggregate-put-word-2
+    put-word-requires-2
+    same-length-2
+    returns-2)

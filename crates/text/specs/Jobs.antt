@@ -1,0 +1,33 @@
+-- What is printed of a file, as characters.
+use Prim.Native.Nat.{ℕ, zero, suc}
+use mathlib.Core.List.{List, [], _∷_, _++_}
+use Rattle.fields.specs.declared.trouble.Trouble.{Trouble}
+use Rattle.fields.specs.declared.trouble.Trouble.the-variants.{Clear, At}
+use Rattle.job.specs.Places.{runCountOf}
+use Rattle.job.specs.Troubles.{jobTrouble}
+use Rattle.reduction.specs.Reducing.{reducedRun}
+use Rattle.text.specs.Numbers.{decimal}
+use Rattle.text.specs.Sheets.{space, newline}
+use Rattle.text.specs.Runs.{runText}
+
+-- "REFUSED "
+abbrev pub refusedWord : List ℕ
+refusedWord = 82 ∷ 69 ∷ 70 ∷ 85 ∷ 83 ∷ 69 ∷ 68 ∷ 32 ∷ []
+
+-- a refusal: number and place
+unfoldable pub refusalText : ℕ → ℕ → List ℕ
+refusalText number place = refusedWord ++ decimal number ++ space ++ decimal place ++ newline
+
+-- the first n runs, in file order
+unfoldable pub runsText : List ℕ → ℕ → List ℕ
+runsText s zero = []
+runsText s (suc n) = runsText s n ++ runText (reducedRun s n)
+
+-- a refused job prints only its refusal
+abbrev pub textOf : Trouble → List ℕ → List ℕ
+textOf Clear s = runsText s (runCountOf s)
+textOf (At number place) s = refusalText number place
+
+-- All that is printed of a file
+unfoldable pub jobText : List ℕ → List ℕ
+jobText s = textOf (jobTrouble s) s

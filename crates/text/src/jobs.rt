@@ -1,0 +1,57 @@
+// What the program prints of a file: a refusal, or its runs in file order.
+
+use crate::numbers::put_decimal;
+use crate::numbers::put_word;
+use crate::runs::put_run;
+use fields::trouble::Trouble;
+use job::Job;
+use reduction::reduce;
+ghost use Prim.Native.Nat.{_+_, _≤_};
+ghost use lib.ListN.{length};
+ghost use Rattle.reduction.specs.Reducing.{ClearJob};
+ghost use Rattle.text.specs.Numbers.{Wrote};
+ghost use Rattle.text.specs.Jobs.{refusalText, runsText, jobText};
+
+// Room for the longest text: sixteen runs, each with all of its findings.
+pub const ROOM: usize = 89568;
+
+// A refusal: its number and its place.
+fn put_refusal(out: &mut [u8], at: usize, number: u32, place: usize) -> usize
+    requires { ⌜ at + 50 ≤ length (now out) ⌝ }
+    ensures { λ r. ⌜ Wrote (now (out .entry)) at (refusalText number place) (now (out .exit)) r ⌝ }
+{
+    let a = put_word(out, at, b"REFUSED ");
+    let b = put_decimal(out, a, number as u64);
+    let c = put_word(out, b, b" ");
+    let d = put_decimal(out, c, place as u64);
+    put_word(out, d, b"\n")
+}
+
+// The runs of a job without trouble.
+fn put_runs(s: &[u8], job: Job, out: &mut [u8]) -> usize
+    requires { ⌜ ClearJob (now s) job ⌝ }
+    requires { ⌜ 89568 ≤ length (now out) ⌝ }
+    ensures { λ r. ⌜ Wrote (now (out .entry)) 0 (runsText (now (s .entry)) (job .runs)) (now (out .exit)) r ⌝ }
+{
+    let runs = job.runs;
+    let mut next: usize = 0;
+    let mut k: usize = 0;
+    while k < runs {
+        next = put_run(out, next, reduce(s, job, k));
+        k += 1;
+    }
+    next
+}
+
+// All that is printed of a file.
+pub fn put_job(s: &[u8], out: &mut [u8]) -> usize
+    requires { ⌜ 89568 ≤ length (now out) ⌝ }
+    ensures { λ r. ⌜ Wrote (now (out .entry)) 0 (jobText (now (s .entry))) (now (out .exit)) r ⌝ }
+{
+    let read = job::read(s);
+    let trouble = read.trouble;
+    if let Trouble::At(number, place) = trouble {
+        return put_refusal(out, 0, number, place);
+    }
+    put_runs(s, read, out)
+}
