@@ -11,6 +11,11 @@ pub const SIZE: usize = 9;
 
 pub const VERSION: u16 = 1;
 
+// Where the two counts stand.
+pub const CERTIFICATES_AT: usize = 5;
+
+pub const RUNS_AT: usize = 7;
+
 // Whether the file begins with "SRJ".
 fn marked(s: &[u8]) -> bool
     ensures { λ r. ⌜ r ≡ marked (now (s .entry)) ⌝ }
@@ -38,5 +43,9 @@ pub fn trouble(s: &[u8]) -> Trouble
         Trouble::COUNT,
         5,
     );
-    t.unless(RunCount::check(numbers::u16_at(s, 7)), Trouble::COUNT, 7)
+    t.unless(
+        RunCount::check(numbers::u16_at(s, RUNS_AT)),
+        Trouble::COUNT,
+        RUNS_AT,
+    )
 }
