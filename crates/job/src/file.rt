@@ -39,9 +39,9 @@ pub fn trouble(s: &[u8]) -> Trouble
     let t = t.unless(marked(s), Trouble::MARK, 0);
     let t = t.unless(numbers::u16_at(s, 3) == VERSION, Trouble::VERSION, 3);
     let t = t.unless(
-        CertificateCount::check(numbers::u16_at(s, 5)),
+        CertificateCount::check(numbers::u16_at(s, CERTIFICATES_AT)),
         Trouble::COUNT,
-        5,
+        CERTIFICATES_AT,
     );
     t.unless(
         RunCount::check(numbers::u16_at(s, RUNS_AT)),
