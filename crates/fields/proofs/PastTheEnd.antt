@@ -1,6 +1,6 @@
 -- Past the end of a file every number is 0, and a part that begins there is empty.
-use Prim.Native.Nat.{ℕ, _+_, _*_, _-_, _≤_}
-use mathlib.Core.Path.{_≡_, refl}
+use Prim.Native.Nat.{ℕ, _+_, _-_, _≤_}
+use mathlib.Core.Path.{_≡_}
 use mathlib.Core.List.{List}
 use native.Mathlib.Nat.{le-of-eq}
 use native.Mathlib.Omega.{arith}

@@ -1,18 +1,15 @@
 -- What a job without trouble is: every run and certificate in range, no certificate twice, run numbers that rise, and no byte after the last run.
 use Prim.Native.Nat.{ℕ, zero, suc, _≤_, _<_}
-use mathlib.Core.Path.{_≡_, refl, sym, _∙_, ap, subst}
-use mathlib.Core.Bool.{Bool, true, false, not, true≢false, _&&_}
+use mathlib.Core.Path.{_≡_, refl, sym, _∙_, subst}
+use mathlib.Core.Bool.{true, false, true≢false}
 use mathlib.Core.List.{List}
 use mathlib.Core.Logic.{⊎-elim}
 use native.Mathlib.Nat.{lt-trans, lt-suc-self, le-of-suc-le-suc, le-antisymm, eq-or-lt-of-le}
 use native.Mathlib.Omega.{arith}
 use borrow.Author.Tests.{leb-true, eq-eqb, not-true}
-use lib.Dec.{leb}
 use lib.ListN.{length}
 use Rattle.fields.specs.declared.trouble.Trouble.the-variants.{Clear}
-use Rattle.fields.specs.Trouble.{upTo}
 use Rattle.fields.proofs.FirstTrouble.{clear-left, clear-right, judged-clear, each-clear}
-use Rattle.records.specs.declared.Certificate.{Certificate}
 use Rattle.records.specs.declared.Identity.{Identity}
 use Rattle.records.specs.Records.{sameIdentity}
 use Rattle.records.specs.InRange.{RunOk}
@@ -21,7 +18,7 @@ use Rattle.parts.specs.Values.{headerAt, runAt}
 use Rattle.parts.specs.Ranges.{CertificateOk}
 use Rattle.parts.proofs.InRange.{certificate-ok, run-ok}
 use Rattle.job.specs.Places.{certificateCountOf, runCountOf, certificatePlace, certificateOf, runStart, runOf}
-use Rattle.job.specs.Troubles.{fileTrouble, sameCertificate, stands, entryTrouble, certificatesTrouble, numberBefore, runTrouble, runsTrouble, jobTrouble}
+use Rattle.job.specs.Troubles.{fileTrouble, sameCertificate, stands, entryTrouble, certificatesTrouble, numberBefore, runsTrouble, jobTrouble}
 use Rattle.job.proofs.ClearRuns.{RunClear, run-clear, run-fits}
 use Rattle.job.proofs.LookBack.{none-of}
 use Rattle.job.proofs.WholeFile.{certificates-fit}

@@ -1,14 +1,13 @@
 -- What a run without trouble says, and that it ends within the file.
-use Prim.Native.Nat.{ℕ, suc, _+_, _≤_, _<_}
+use Prim.Native.Nat.{ℕ, _+_, _≤_, _<_}
 use mathlib.Core.Path.{_≡_, refl}
-use mathlib.Core.Bool.{Bool, true, false, false≢true, _&&_}
+use mathlib.Core.Bool.{true}
 use mathlib.Core.List.{List}
 use native.Mathlib.Numerals.{add-one}
 use borrow.Author.Tests.{ltb-true, eqb-true}
-use lib.Dec.{ltb, lit≤}
+use lib.Dec.{lit≤}
 use lib.ListN.{length}
 use Rattle.fields.specs.declared.trouble.Trouble.the-variants.{Clear}
-use Rattle.fields.specs.Trouble.{judged}
 use Rattle.fields.proofs.FirstTrouble.{clear-left, clear-right, judged-clear}
 use Rattle.readings.specs.Ranges.{totalSeconds}
 use Rattle.records.proofs.Identities.{both-left, both-right}

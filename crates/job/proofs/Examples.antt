@@ -1,12 +1,6 @@
 -- The worked job is read as 01 prints it, each refusal number is given for some file, and no other number is ever given.
-use Prim.Native.Nat.{ℕ, _≤_}
-use mathlib.Core.Path.{_≡_, refl, sym, ap, subst}
-use mathlib.Core.Bool.{Bool, true, not, _&&_}
+use mathlib.Core.Path.{_≡_, refl}
 use mathlib.Core.List.{List, [], _∷_}
-use borrow.Author.Tests.{leb-true}
-use lib.Dec.{leb}
-use Rattle.fields.specs.declared.trouble.Trouble.{Trouble}
-use Rattle.fields.specs.declared.trouble.Trouble.the-variants.{Clear, At}
 use Rattle.fields.specs.Numbers.{u16At, u32At, i16At}
 use Rattle.fields.specs.Trouble.{first, checks, upTo}
 use Rattle.readings.specs.Ranges.{within, signedWithin}

@@ -1,21 +1,22 @@
 -- The header's counts and the certificates of a file, and the job that is read from it.
-use Prim.Native.Nat.{ℕ, zero, suc, _+_, _*_, _≤_}
+use Prim.Native.Nat.{ℕ, zero, suc, _≤_, _<_}
 use mathlib.Core.Path.{_≡_, refl, sym, _∙_, ap}
 use mathlib.Core.List.{List}
 use native.Mathlib.Nat.{lt-suc-self, mul-suc}
 use native.Mathlib.Omega.{arith}
 use lib.Dec.{lit≤}
-use lib.ListN.{length}
+use lib.ListN.{length, getD}
 use Rattle.fields.specs.declared.trouble.Trouble.{Trouble}
 use Rattle.fields.specs.declared.trouble.Trouble.the-variants.{Clear, At}
 use Rattle.fields.specs.Trouble.{upTo}
 use Rattle.fields.proofs.FirstTrouble.{clear-left, each-clear}
 use Rattle.readings.proofs.Ranges.{within-least, within-greatest}
+use Rattle.parts.proofs.Arrays.{pad-at}
 use Rattle.parts.proofs.Layouts.{complete-at, good-at}
 use Rattle.job.specs.declared.Job.{Job}
-use Rattle.job.specs.Places.{certificateCountOf, runCountOf, certificatePlace}
+use Rattle.job.specs.Places.{certificateCountOf, runCountOf, certificatePlace, certificateOf, runStart}
 use Rattle.job.specs.Troubles.{fileRows, fileTrouble, entryTrouble, jobTrouble}
-use Rattle.job.specs.Reading.{refused, jobOf, readJob}
+use Rattle.job.specs.Reading.{noCertificate, refused, jobOf, readJob}
 
 -- a header without trouble: at most 64 certificates and 1 to 16 runs
 pub certificate-count : (s : List ℕ) → fileTrouble s ≡ Clear → certificateCountOf s ≤ 64
@@ -43,3 +44,31 @@ refuses s e told first = e ∙ ap refused told ∙ ap (λ (t : Trouble). jobOf t
 pub accepts : (s : List ℕ) {r : Job} → r ≡ jobOf Clear s → Clear ≡ jobTrouble s → r ≡ readJob s
 unfolding readJob
 accepts s e clear = e ∙ ap (λ (t : Trouble). jobOf t s) clear
+
+-- What is read
+
+-- the trouble that is answered is the file's first
+pub trouble-of : (s : List ℕ) → readJob s .trouble ≡ jobTrouble s
+unfolding readJob
+trouble-of s = same (jobTrouble s)
+  where
+    same : (t : Trouble) → jobOf t s .trouble ≡ t
+    same Clear = refl
+    same (At number place) = refl
+
+-- a clear file's counts, certificates and starts are those that stand in it
+pub clear-read : (s : List ℕ) → jobTrouble s ≡ Clear → readJob s ≡ jobOf Clear s
+unfolding readJob
+clear-read s e = ap (λ (t : Trouble). jobOf t s) e
+
+pub held-at : (s : List ℕ) → jobTrouble s ≡ Clear → (k : ℕ) → k < certificateCountOf s → getD (readJob s .held) k noCertificate ≡ certificateOf s k
+unfolding jobTrouble
+held-at s e k h =
+    ap (λ (j : Job). getD (j .held) k noCertificate) (clear-read s e)
+    ∙ pad-at 64 noCertificate (certificateOf s) (certificateCountOf s) k h (certificate-count s (clear-left _ _ e))
+
+pub start-at : (s : List ℕ) → jobTrouble s ≡ Clear → (k : ℕ) → k < runCountOf s → getD (readJob s .starts) k 0 ≡ runStart s k
+unfolding jobTrouble
+start-at s e k h =
+    ap (λ (j : Job). getD (j .starts) k 0) (clear-read s e)
+    ∙ pad-at 16 0 (runStart s) (runCountOf s) k h (run-count s (clear-left _ _ e))

@@ -69,12 +69,12 @@ workedJob = lasting 3600
 
 -- What it is read as
 
-abbrev pub ABC : ℕ → Identity
-ABC serial = record { maker = record { first = 65; second = 66; third = 67 }; serial = serial }
+abbrev pub ofABC : ℕ → Identity
+ofABC serial = record { maker = record { first = 65; second = 66; third = 67 }; serial = serial }
 
 abbrev pub issued : ℕ → ℕ → ℕ → ℕ → ℕ → ℕ → Certificate
 issued kind serial day first second third =
-    record { kind = kind; identity = ABC serial; day = day; first = first; second = second; third = third }
+    record { kind = kind; identity = ofABC serial; day = day; first = first; second = second; third = third }
 
 abbrev pub workedRead : Job
 workedRead =
@@ -96,9 +96,9 @@ workedRun =
     record {
       number = 7;
       day = 9000;
-      meter = ABC 10442;
-      pitot = ABC 1;
-      nozzle = ABC 2;
+      meter = ofABC 10442;
+      pitot = ofABC 1;
+      nozzle = ofABC 2;
       pb = 3000;
       pg = minus 68;
       co2 = 120;

@@ -8,7 +8,7 @@ use records::Certificate;
 use records::Identity;
 use records::Maker;
 ghost use mathlib.Core.Path.{_≡_};
-ghost use Prim.Native.Nat.{ℕ, _<_, _≤_};
+ghost use Prim.Native.Nat.{_<_, _≤_};
 ghost use lib.ListN.{getD, replicate};
 ghost use Rattle.parts.specs.Arrays.{padded};
 ghost use Rattle.job.specs.Places.{certificateOf};

@@ -11,6 +11,11 @@ pub const SIZE: usize = 9;
 
 pub const VERSION: u16 = 1;
 
+// Where the two counts stand.
+pub const CERTIFICATES_AT: usize = 5;
+
+pub const RUNS_AT: usize = 7;
+
 // Whether the file begins with "SRJ".
 fn marked(s: &[u8]) -> bool
     ensures { λ r. ⌜ r ≡ marked (now (s .entry)) ⌝ }
@@ -34,9 +39,13 @@ pub fn trouble(s: &[u8]) -> Trouble
     let t = t.unless(marked(s), Trouble::MARK, 0);
     let t = t.unless(numbers::u16_at(s, 3) == VERSION, Trouble::VERSION, 3);
     let t = t.unless(
-        CertificateCount::check(numbers::u16_at(s, 5)),
+        CertificateCount::check(numbers::u16_at(s, CERTIFICATES_AT)),
         Trouble::COUNT,
-        5,
+        CERTIFICATES_AT,
     );
-    t.unless(RunCount::check(numbers::u16_at(s, 7)), Trouble::COUNT, 7)
+    t.unless(
+        RunCount::check(numbers::u16_at(s, RUNS_AT)),
+        Trouble::COUNT,
+        RUNS_AT,
+    )
 }

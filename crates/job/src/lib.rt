@@ -41,8 +41,8 @@ pub fn read(s: &[u8]) -> Job
     let Trouble::Clear = t else {
         return refused(t);
     };
-    let certificates = numbers::u16_at(s, 5) as usize;
-    let runs = numbers::u16_at(s, 7) as usize;
+    let certificates = numbers::u16_at(s, file::CERTIFICATES_AT) as usize;
+    let runs = numbers::u16_at(s, file::RUNS_AT) as usize;
     let c = certificates::read(s, certificates);
     let t = c.trouble;
     let Trouble::Clear = t else {

@@ -1,8 +1,7 @@
 -- Header, certificates, runs: the first in trouble is the answer, and past them all the job is what was held.
 use Prim.Native.Nat.{ℕ, _≤_}
-use mathlib.Core.Path.{refl, sym, _∙_, ap, subst}
+use mathlib.Core.Path.{sym, _∙_, ap, subst}
 use borrow.Author.Needs.{needs}
-use lib.ListN.{length}
 use Rattle.fields.specs.declared.trouble.Trouble.the-variants.{Clear}
 use Rattle.fields.specs.Trouble.{first, upTo}
 use Rattle.fields.proofs.FirstTrouble.{first-met, first-passed}

@@ -1,5 +1,4 @@
 -- The fields, and then the look back, which reads the certificates that the file holds.
-use Prim.Native.Nat.{ℕ, _≤_}
 use mathlib.Core.Path.{_∙_, ap, ap₂}
 use mathlib.Core.Bool.{not}
 use mathlib.Core.List.{List}

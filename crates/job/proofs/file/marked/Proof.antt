@@ -1,7 +1,10 @@
 -- Each early answer is the first byte that is not the mark's.
-use mathlib.Core.Path.{ap, sym, _∙_}
+use Prim.Native.Nat.{ℕ}
+use mathlib.Core.Path.{ap}
 use borrow.Author.Tests.{eq-eqb, ne-eqb}
 use borrow.Author.Needs.{needs}
+use lib.Dec.{eqb}
+use Rattle.fields.proofs.EarlyAnswers.{fails, passes}
 use Rattle.job.proofs.file.marked.Statement.{statement}
 use Rattle.job.proofs.file.marked.Tie as tie
 
@@ -9,7 +12,7 @@ byte-requires : tie.Need-byte-requires
 byte-requires c κs = search needs
 
 returns : tie.Need-returns
-returns c = rw (← c .before .byte .ensures, ne-eqb _ _ (c .if1 .taken))
+returns c = fails (ap (λ (b : ℕ). eqb b 83) (c .before .byte .ensures)) (ne-eqb _ _ (c .if1 .taken)) _
 
 byte-requires-2 : tie.Need-byte-requires-2
 byte-requires-2 c κs = search needs
@@ -17,7 +20,8 @@ byte-requires-2 c κs = search needs
 returns-2 : tie.Need-returns-2
 returns-2 c =
     let first = c .before .before in
-    rw (← first .before .byte .ensures, eq-eqb _ _ (first .if1 .left), ← c .before .byte2 .ensures, ne-eqb _ _ (c .if2 .taken))
+    passes (ap (λ (b : ℕ). eqb b 83) (first .before .byte .ensures)) (eq-eqb _ _ (first .if1 .left))
+    (fails (ap (λ (b : ℕ). eqb b 82) (c .before .byte2 .ensures)) (ne-eqb _ _ (c .if2 .taken)) _)
 
 byte-requires-3 : tie.Need-byte-requires-3
 byte-requires-3 c κs = search needs
@@ -26,7 +30,9 @@ returns-3 : tie.Need-returns-3
 returns-3 c =
     let second = c .before in
     let first = second .before .before in
-    rw (← first .before .byte .ensures, eq-eqb _ _ (first .if1 .left), ← second .before .byte2 .ensures, eq-eqb _ _ (second .if2 .left), ← c .byte3 .ensures)
+    passes (ap (λ (b : ℕ). eqb b 83) (first .before .byte .ensures)) (eq-eqb _ _ (first .if1 .left))
+    (passes (ap (λ (b : ℕ). eqb b 82) (second .before .byte2 .ensures)) (eq-eqb _ _ (second .if2 .left))
+    (ap (λ (b : ℕ). eqb b 74) (c .byte3 .ensures)))
 
 pub marked-spec : {M : Type 1} → statement M
 marked-spec =

@@ -1,24 +1,16 @@
 -- Both sums are those of the file, and each early answer is the first test that fails.
 use Prim.Native.Nat.{ℕ, _+_, _*_}
-use mathlib.Core.Path.{_≡_, sym, _∙_, ap, ap₂}
-use mathlib.Core.Bool.{Bool, true, false, _&&_}
+use mathlib.Core.Path.{_∙_, ap, ap₂}
 use mathlib.Core.List.{List}
 use borrow.Author.Tests.{not-true, not-false}
 use borrow.Author.Needs.{needs}
 use lib.Dec.{eqb}
+use Rattle.fields.proofs.EarlyAnswers.{fails, passes}
 use Rattle.readings.specs.Ranges.{totalSeconds}
 use Rattle.parts.specs.Values.{point, segment}
 use Rattle.parts.proofs.Places.{summed}
 use Rattle.job.proofs.runs.good_seconds.Statement.{statement}
 use Rattle.job.proofs.runs.good_seconds.Tie as tie
-
--- the first test r fails: so do both
-fails : {r a : Bool} → r ≡ a → r ≡ false → (b : Bool) → false ≡ (a && b)
-fails e f b = rw (sym e ∙ f)
-
--- it holds: the second decides
-passes : {r a x b : Bool} → r ≡ a → r ≡ true → x ≡ b → x ≡ (a && b)
-passes e f g = rw (sym e ∙ f) g
 
 cast-points : tie.Need-cast-points
 cast-points c = search needs

@@ -1,5 +1,4 @@
 -- Each field by its own read.
-use mathlib.Core.Path.{_≡_}
 use borrow.Author.Needs.{needs}
 use Rattle.parts.proofs.weighing.weighing.Statement.{statement}
 use Rattle.parts.proofs.weighing.weighing.Tie as tie
