@@ -8,7 +8,8 @@ use mathlib.Core.Logic.{_⊎_, inl, inr}
 use native.Mathlib.Numerals.{add-one}
 use borrow.Author.Tests.{eq-eqb, ne-eqb}
 use lib.ListN.{getD, drop}
-use Rattle.fields.specs.declared.trouble.Trouble.the-variants.{Clear}
+use Rattle.fields.specs.declared.trouble.Trouble.{Trouble}
+use Rattle.fields.specs.declared.trouble.Trouble.the-variants.{Clear, At}
 use Rattle.records.specs.declared.Certificate.{Certificate}
 use Rattle.records.specs.declared.Identity.{Identity}
 use Rattle.records.specs.declared.Run.{Run}
@@ -24,7 +25,10 @@ use Rattle.fields.specs.Numbers.{u16At}
 use Rattle.parts.specs.Values.{runAt}
 use Rattle.reduction.specs.declared.Which.{Which}
 use Rattle.reduction.specs.declared.Which.the-variants.{Run as RunAt, Nothing}
-use Rattle.reduction.specs.Reducing.{ClearJob, Workable, runNamed}
+use Rattle.job.specs.Troubles.{jobTrouble}
+use Rattle.findings.specs.Listing.{listed}
+use Rattle.findings.proofs.Most.{at-most-for}
+use Rattle.reduction.specs.Reducing.{ClearJob, Workable, worked, chosenIn, reducedRun, runNamed}
 
 module _ (s : List ℕ) (j : Job) (ok : ClearJob s j) where
   whole : j ≡ jobOf Clear s
@@ -71,6 +75,11 @@ module _ (s : List ℕ) (j : Job) (ok : ClearJob s j) where
   workable k inside =
       record { run = clear-run s (ok .clear) k inside; few = rw count-of-certificates few; certificates = held-ok }
 
+-- a run of a clear job has at most 98 findings
+pub found-few : (s : List ℕ) → jobTrouble s ≡ Clear → (k : ℕ) → k < runCountOf s → reducedRun s k .findings .count ≤ 98
+unfolding reducedRun worked listed
+found-few s clear k inside = at-most-for (runOf s k) (chosenIn s k) (clear-run s clear k inside)
+
 -- The choice looks at the first n certificates alone
 module _ (after : Bool) (kind : ℕ) (identity : Identity) (day : ℕ) where
   chosen-ext : (f g : ℕ → Certificate) (n : ℕ) → ((i : ℕ) → i < n → f i ≡ g i) → chosen after kind identity day f n ≡ chosen after kind identity day g n
@@ -111,3 +120,18 @@ sought-more s number k at {found} {next} {read} so ea er (inl (e, en)) =
 sought-more s number k at {found} {next} {read} so ea er (inr (f, en)) =
     let other : u16At (drop (runStart s k) s) 0 ≡ number → ⊥ = λ e. f (er ∙ ap (λ a. u16At (drop a s) 0) ea ∙ e) in
     record { is = en ∙ rw (add-one k, ne-eqb _ _ other) (so .is) }
+
+-- the trouble that a job tells is its file's
+trouble-told : (s : List ℕ) (u : Trouble) → jobOf u s .trouble ≡ u
+trouble-told s Clear = refl
+trouble-told s (At n p) = refl
+
+job-trouble : (s : List ℕ) {j : Job} → j ≡ readJob s → jobTrouble s ≡ j .trouble
+unfolding readJob
+job-trouble s e = sym (trouble-told s (jobTrouble s)) ∙ ap (λ (i : Job). i .trouble) (sym e)
+
+pub read-refused : (s : List ℕ) {j : Job} {n p : ℕ} → j ≡ readJob s → j .trouble ≡ At n p → jobTrouble s ≡ At n p
+read-refused s e t = job-trouble s e ∙ t
+
+pub read-clear : (s : List ℕ) {j : Job} → j ≡ readJob s → j .trouble ≡ Clear → ClearJob s j
+read-clear s e t = record { is = e; clear = job-trouble s e ∙ t }

@@ -3,3 +3,4 @@ pub mod Decimals
 pub mod Texts
 pub mod SheetTexts
 pub mod RunTexts
+pub mod JobTexts

@@ -1,50 +1,50 @@
+-- Five parts, one after another.
 use borrow.Author.Needs.{needs}
+use native.Mathlib.Omega.{arith}
+use Rattle.text.proofs.Decimals.{decimal-short}
+use Rattle.text.proofs.JobTexts.{wrote-refusal}
 use Rattle.text.proofs.jobs.put_refusal.Statement.{statement}
 use Rattle.text.proofs.jobs.put_refusal.Tie as tie
-use Rattle.text.proofs.jobs.put_refusal.Reads as reads
-use Rattle.text.proofs.jobs.put_refusal.Lts as lts
-use Rattle.text.proofs.numbers.put_decimal.Reads as put-decimal-reads
-use Rattle.text.proofs.numbers.put_word.Reads as put-word-reads
 
--- src/jobs.rt:23:31
 slice-aggregate-put-word : tie.Need-slice-aggregate-put-word
 slice-aggregate-put-word c = search needs
 
--- src/jobs.rt:23:9
 put-word-requires : tie.Need-put-word-requires
 put-word-requires c κs = search needs
 
--- src/jobs.rt:24:9
 put-decimal-requires : tie.Need-put-decimal-requires
-put-decimal-requires c κs = ?
+put-decimal-requires c κs =
+    let start = c .before .before .before .before .before .before .before in
+    omega (arith, start .pre, decimal-short (start .args .number), c .before .before .before .put-word .ensures)
 
--- src/jobs.rt:25:30
 slice-aggregate-put-word-2 : tie.Need-slice-aggregate-put-word-2
 slice-aggregate-put-word-2 c = search needs
 
--- src/jobs.rt:25:9
 put-word-requires-2 : tie.Need-put-word-requires-2
-put-word-requires-2 c κs = ?
+put-word-requires-2 c κs =
+    let start = c .before .before .before .before .before .before .before .before .before .before .before .before in
+    omega (arith, start .pre, decimal-short (start .args .number), c .before .before .before .before .before .before .before .before .put-word .ensures, c .before .before .before .before .put-decimal .ensures)
 
--- src/jobs.rt:26:9
 put-decimal-requires-2 : tie.Need-put-decimal-requires-2
-put-decimal-requires-2 c κs = ?
+put-decimal-requires-2 c κs =
+    let start = c .before .before .before .before .before .before .before .before .before .before .before .before .before .before .before .before in
+    omega
+    (arith, start .pre, decimal-short (start .args .number), decimal-short (start .args .place), c .before .before .before .before .before .before .before .before .before .before .before .before .put-word .ensures, c .before .before .before .before .before .before .before .before .put-decimal .ensures, c .before .before .before .put-word2 .ensures)
 
--- src/jobs.rt:27:22
 slice-aggregate-put-word-3 : tie.Need-slice-aggregate-put-word-3
 slice-aggregate-put-word-3 c = search needs
 
--- src/jobs.rt:27:5
 put-word-requires-3 : tie.Need-put-word-requires-3
-put-word-requires-3 c κs = ?
+put-word-requires-3 c κs =
+    let start = c .before .before .before .before .before .before .before .before .before .before .before .before .before .before .before .before .before .before .before .before .before in
+    omega
+    (arith, start .pre, decimal-short (start .args .number), decimal-short (start .args .place), c .before .before .before .before .before .before .before .before .before .before .before .before .before .before .before .before .before .put-word .ensures, c .before .before .before .before .before .before .before .before .before .before .before .before .before .put-decimal .ensures, c .before .before .before .before .before .before .before .before .put-word2 .ensures, c .before .before .before .before .put-decimal2 .ensures)
 
--- src/jobs.rt:19:1
 same-length : tie.Need-same-length
 same-length c = search needs
 
--- src/jobs.rt:19:1
 returns : tie.Need-returns
-returns c = ?
+returns c = wrote-refusal _ _ (c .before .before .before .before .before .before .before .before .before .before .before .before .before .before .before .before .before .before .before .before .before .before .before .before .pre) (c .before .before .before .before .before .before .before .before .before .before .before .before .before .before .before .before .before .before .before .before .put-word .ensures) (c .before .before .before .before .before .before .before .before .before .before .before .before .before .before .before .before .put-decimal .ensures) (c .before .before .before .before .before .before .before .before .before .before .before .put-word2 .ensures) (c .before .before .before .before .before .before .before .put-decimal2 .ensures) (c .before .before .put-word3 .ensures)
 
 pub put-refusal-spec : {M : Type 1} → statement M
 put-refusal-spec =

@@ -1,47 +1,69 @@
+-- The loop writes one run a turn.
+use Prim.Native.Nat.{ℕ, _-_, _≤_}
+use mathlib.Core.List.{List}
+use mathlib.Core.Path.{_≡_, subst}
+use native.Mathlib.Nat.{le-antisymm}
+use native.Mathlib.Omega.{arith}
+use Rattle.reduction.specs.Reducing.{ClearRun}
+use Rattle.reduction.proofs.ClearJobs.{count-of-runs, few-runs, found-few}
+use Rattle.text.specs.Numbers.{Wrote}
+use Rattle.text.specs.Jobs.{runsText}
+use Rattle.text.proofs.JobTexts.{Printed, printed-none, printed-more}
 use Rattle.text.proofs.jobs.put_runs.Statement.{statement}
 use Rattle.text.proofs.jobs.put_runs.Tie as tie
-use Rattle.text.proofs.jobs.put_runs.Reads as reads
-use Rattle.text.proofs.jobs.put_runs.Lts as lts
-use Rattle.reduction.proofs.reduce.Reads as reduce-reads
-use Rattle.text.proofs.runs.put_run.Reads as put-run-reads
 
 abbrev Inv-loop : tie.InvT-loop
-Inv-loop s job out₀ runs next₀ k₀ out next k = ?
+Inv-loop s job out₀ runs next₀ k₀ out next k = (k ≤ runs) × Printed s out₀ out next k
 
 abbrev μ-loop : tie.MeasureT-loop
-μ-loop s job out₀ runs next₀ k₀ out next k = ?
+μ-loop s job out₀ runs next₀ k₀ out next k = runs - k
 
--- src/jobs.rt:39:5
+all : (s : List ℕ) {old out : List ℕ} {next k n : ℕ} → Wrote old 0 (runsText s k) out next → k ≡ n → Wrote old 0 (runsText s n) out next
+all s {old} {out} {next} w whole = subst (λ m. Wrote old 0 (runsText s m) out next) whole w
+
 loop-holds : tie.Need-loop-holds Inv-loop μ-loop
-loop-holds c = ?
+loop-holds c = (omega arith, printed-none _ _)
 
--- src/jobs.rt:40:35
+clear-run : (c : tie.In-loop Inv-loop μ-loop) → ClearRun (c .before .before .before .before .args .s .now) (c .before .before .before .before .args .job) (c .before .loop .k)
+clear-run c =
+    let start = c .before .before .before .before in
+    record { job = start .pre .0; inside = rw (count-of-runs _ _ (start .pre .0)) at (c .loop-test .taken) }
+
+reduced-few : (c : tie.After-reduce Inv-loop μ-loop) → c .reduce .result .findings .count ≤ 98
+reduced-few c =
+    let r = clear-run (c .before .before) in
+    rw (c .reduce .ensures) (found-few _ (r .job .clear) _ (r .inside))
+
 reduce-requires : tie.Need-reduce-requires Inv-loop μ-loop
-reduce-requires c κs = ?
+reduce-requires c κs = clear-run (c .before)
 
--- src/jobs.rt:40:9
 put-run-requires : tie.Need-put-run-requires Inv-loop μ-loop
-put-run-requires c κs = ?
+put-run-requires c κs =
+    let start = c .before .before .before .before .before .before in
+    let l = c .before .before .before .loop .inv .1 in (
+      reduced-few c,
+      omega (arith, l .short, l .is .after, l .is .kept, start .pre .1, few-runs _ _ (start .pre .0), c .before .before .loop-test .taken),
+    )
 
--- src/jobs.rt:41:9
 add-k : tie.Need-add-k Inv-loop μ-loop
-add-k c = ?
+add-k c = omega (arith, c .before .before .before .before .before .loop-test .taken, few-runs _ _ (c .before .before .before .before .before .before .before .before .before .pre .0))
 
--- src/jobs.rt:39:5
 loop-less : tie.Need-loop-less Inv-loop μ-loop
-loop-less c = ?
+loop-less c = omega (arith, c .before .before .before .before .before .loop-test .taken)
 
--- src/jobs.rt:39:5
 loop-again : tie.Need-loop-again Inv-loop μ-loop
-loop-again c = ?
+loop-again c =
+    let start = c .before .before .before .before .before .before .before .before .before in
+    let inside = c .before .before .before .before .before .loop-test .taken in (
+      omega (arith, inside),
+      printed-more (c .before .before .before .before .before .before .loop .inv .1) (omega (arith, inside, few-runs _ _ (start .pre .0))) (start .pre .1) (c .before .before .before .reduce .ensures) (reduced-few (c .before .before .before)) (c .before .before .put-run .ensures),
+    )
 
--- src/jobs.rt:31:1
 same-length : tie.Need-same-length Inv-loop μ-loop
-same-length c = ?
+same-length c = c .before .loop .inv .1 .is .kept
 
--- src/jobs.rt:31:1
 returns : tie.Need-returns Inv-loop μ-loop
-returns c = ?
+returns c = all _ (c .before .loop .inv .1 .is) (le-antisymm (c .before .loop .inv .0) (c .loop-test .left))
 
 pub put-runs-spec : {M : Type 1} → statement M
 put-runs-spec =
