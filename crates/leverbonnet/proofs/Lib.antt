@@ -1,0 +1,3 @@
+-- The laws that the calls' proofs share, and the three demands.
+pub mod Filling
+pub mod Outcomes

@@ -1,0 +1,110 @@
+-- Each way through a call, and the outcome that it is.
+use Prim.Native.Nat.{ℕ, zero, suc, _+_, _*_, _^_, _≤_, _<_}
+use mathlib.Core.Path.{_≡_, refl, sym, _∙_, ap, subst}
+use mathlib.Core.Bool.{Bool, true, false, cond}
+use mathlib.Core.List.{List}
+use native.Mathlib.Omega.{arith}
+use borrow.Author.Tests.{lt-ltb, le-ltb, le-leb, lt-leb}
+use lib.Dec.{eqb}
+use lib.ListN.{length, getD, drop}
+use Rattle.fields.specs.declared.trouble.Trouble.the-variants.{Clear, At}
+use Rattle.fields.specs.Numbers.{u16At}
+use Rattle.job.specs.declared.Job.{Job}
+use Rattle.job.specs.Places.{runCountOf, runStart, runOf}
+use Rattle.job.specs.Reading.{readJob}
+use Rattle.job.specs.Troubles.{jobTrouble}
+use Rattle.job.proofs.Reach.{places}
+use Rattle.job.proofs.Numbers.{numbers}
+use Rattle.parts.specs.Values.{runAt}
+use Rattle.reduction.specs.declared.Reduced.{Reduced}
+use Rattle.reduction.specs.declared.Which.{Which}
+use Rattle.reduction.specs.declared.Which.the-variants.{Run as RunAt, Nothing}
+use Rattle.reduction.specs.Reducing.{ClearJob, reducedRun, runNamed}
+use Rattle.reduction.proofs.ClearJobs.{count-of-runs, start-of, read-refused}
+use Rattle.output.specs.declared.Answer.{Answer}
+use Rattle.output.specs.declared.Answer.the-variants.{Done, Refused}
+use Rattle.output.specs.Splice.{spliced}
+use Rattle.leverbonnet.specs.Bytes.{sheetBytes, findingsBytes}
+use Rattle.leverbonnet.specs.Calls.{Outcome, refused, reduced, handed, outcome, success, answerOf, linesAfter, findingsAfter, Came, countAnswer, numberAnswer}
+
+-- a refusal's place fits 32 bits
+pub place-fits : (s : List ℕ) {j : Job} {n p : ℕ} → j ≡ readJob s → j .trouble ≡ At n p → p < 2 ^ 32
+place-fits s e t = omega (arith, places s (read-refused s e t))
+
+-- a refusal leaves both buffers as they were
+pub came-refused : {o : Outcome} (number place : ℕ) (lines findings : List ℕ) → o ≡ refused number place → Came o lines findings lines findings (Refused number place)
+unfolding answerOf linesAfter findingsAfter
+came-refused number place lines findings e = rw e (record { answer = refl; lines = refl; findings = refl })
+
+-- Handing a reduced run over
+
+pub short-lines : (r : Reduced) (lines findings : ℕ) → lines < 180 → handed r lines findings ≡ refused 9 0
+unfolding handed
+short-lines r lines findings h = rw (lt-ltb lines 180 h)
+
+pub short-findings : (r : Reduced) (lines findings : ℕ) → 180 ≤ lines → findings < 4 * r .findings .count → handed r lines findings ≡ refused 9 0
+unfolding handed
+short-findings r lines findings h k = rw (le-ltb lines 180 h, lt-ltb findings (4 * r .findings .count) k)
+
+pub came-reduced : (r : Reduced) (lines findings : List ℕ) {linesOut findingsOut : List ℕ} {n : ℕ} → 180 ≤ length lines → 4 * r .findings .count ≤ length findings → linesOut ≡ spliced lines 0 (sheetBytes (r .sheet)) → findingsOut ≡ spliced findings 0 (findingsBytes (r .findings .list) (r .findings .count)) → n ≡ success (r .findings .count) (r .accepted) → Came (handed r (length lines) (length findings)) lines findings linesOut findingsOut (Done n)
+unfolding handed answerOf linesAfter findingsAfter
+came-reduced r lines findings h k el ef en =
+    rw (le-ltb (length lines) 180 h, le-ltb (length findings) (4 * r .findings .count) k)
+    (record { answer = ap Done en; lines = el; findings = ef })
+
+-- The call as a whole
+
+pub refused-by-reader : (s : List ℕ) {j : Job} {n p : ℕ} (run lines findings : ℕ) → j ≡ readJob s → j .trouble ≡ At n p → outcome s run lines findings ≡ refused n p
+unfolding outcome
+refused-by-reader s run lines findings e t = rw (read-refused s e t)
+
+pub no-run : (s : List ℕ) (j : Job) {which : Which} (run lines findings : ℕ) → ClearJob s j → which ≡ runNamed s run (j .runs) → which ≡ Nothing → outcome s run lines findings ≡ refused 10 0
+unfolding outcome
+no-run s j run lines findings ok ew en =
+    let none : runNamed s run (runCountOf s) ≡ Nothing = ap (runNamed s run) (sym (count-of-runs s j ok)) ∙ sym ew ∙ en in
+    rw (ok .clear, none)
+
+pub one-run : (s : List ℕ) (j : Job) {which : Which} {k : ℕ} {r : Reduced} (run lines findings : ℕ) → ClearJob s j → which ≡ runNamed s run (j .runs) → which ≡ RunAt k → r ≡ reducedRun s k → handed r lines findings ≡ outcome s run lines findings
+unfolding outcome
+one-run s j run lines findings ok ew ek er =
+    let one = ap (runNamed s run) (sym (count-of-runs s j ok)) ∙ sym ew ∙ ek in
+    rw (ok .clear, one, er)
+
+-- what came of one outcome came of the same one
+pub came-same : {o o′ : Outcome} {lines findings linesOut findingsOut : List ℕ} {a : Answer} → o ≡ o′ → Came o lines findings linesOut findingsOut a → Came o′ lines findings linesOut findingsOut a
+came-same {lines = lines} {findings} {linesOut} {findingsOut} {a} e came = subst (λ o. Came o lines findings linesOut findingsOut a) e came
+
+-- a run that was found is one of the job's
+one-of : (test : Bool) (rest : Which) (n : ℕ) {k : ℕ} → cond test (RunAt n) rest ≡ RunAt k → (rest ≡ RunAt k → k < n) → k < suc n
+one-of true rest n {k} e before = let same : n ≡ k = cc in omega arith
+one-of false rest n e before = let less = before e in omega arith
+
+pub found-inside : (s : List ℕ) (run n : ℕ) {k : ℕ} → runNamed s run n ≡ RunAt k → k < n
+unfolding runNamed
+found-inside s run zero e = let never : _≡_ {A = ℕ} 0 1 = cc in absurd (omega arith)
+found-inside s run (suc n) e = one-of (eqb (runOf s n .number) run) (runNamed s run n) n e (found-inside s run n)
+
+-- The other calls
+
+pub count-refused : (s : List ℕ) {j : Job} {n p : ℕ} → j ≡ readJob s → j .trouble ≡ At n p → Refused n p ≡ countAnswer s
+unfolding countAnswer
+count-refused s e t = rw (read-refused s e t)
+
+pub count-done : (s : List ℕ) (j : Job) → ClearJob s j → Done (j .runs) ≡ countAnswer s
+unfolding countAnswer
+count-done s j ok = rw (ok .clear) (ap Done (count-of-runs s j ok))
+
+pub number-refused : (s : List ℕ) {j : Job} {n p : ℕ} (index : ℕ) → j ≡ readJob s → j .trouble ≡ At n p → Refused n p ≡ numberAnswer s index
+unfolding numberAnswer
+number-refused s index e t = rw (read-refused s e t)
+
+pub number-past : (s : List ℕ) (j : Job) (index : ℕ) → ClearJob s j → j .runs ≤ index → Refused 10 0 ≡ numberAnswer s index
+unfolding numberAnswer
+number-past s j index ok past = rw (ok .clear, le-leb _ _ (rw (count-of-runs s j ok) at past))
+
+pub number-done : (s : List ℕ) (j : Job) (index : ℕ) {t : List ℕ} {n : ℕ} → ClearJob s j → index < j .runs → t ≡ drop (getD (j .starts) index 0) s → n ≡ u16At t 0 → Done n ≡ numberAnswer s index
+unfolding numberAnswer runAt
+number-done s j index ok inside et en =
+    let within : index < runCountOf s = rw (count-of-runs s j ok) at inside in
+    let start = start-of s j ok index within in
+    rw (ok .clear, lt-leb _ _ within) (ap Done (en ∙ ap (λ u. u16At u 0) (et ∙ ap (λ a. drop a s) start)))

@@ -1,0 +1,96 @@
+-- What the calls on a job answer, and what every lent byte is afterwards.
+use Prim.Native.Nat.{ℕ, _+_, _*_}
+use mathlib.Core.Path.{_≡_}
+use mathlib.Core.Bool.{Bool, cond, _||_}
+use mathlib.Core.List.{List}
+use lib.Dec.{leb, ltb}
+use lib.ListN.{length}
+use Rattle.fields.specs.declared.trouble.Trouble.{Trouble}
+use Rattle.fields.specs.declared.trouble.Trouble.the-variants.{Clear, At}
+use Rattle.job.specs.Places.{runCountOf, runOf}
+use Rattle.job.specs.Troubles.{jobTrouble}
+use Rattle.reduction.specs.declared.Reduced.{Reduced}
+use Rattle.reduction.specs.declared.Which.{Which}
+use Rattle.reduction.specs.declared.Which.the-variants.{Run as RunAt, Nothing}
+use Rattle.reduction.specs.Reducing.{reducedRun, runNamed}
+use Rattle.output.specs.declared.Answer.{Answer}
+use Rattle.output.specs.declared.Answer.the-variants.{Done, Refused}
+use Rattle.output.specs.Answers.{packed}
+use Rattle.output.specs.Splice.{spliced}
+use Rattle.leverbonnet.specs.Bytes.{sheetBytes, findingsBytes}
+
+-- What comes of a call to reduce: a refusal, or a reduced run
+pub data Outcome : Type 0 where
+  refused : ℕ → ℕ → Outcome
+  reduced : Reduced → Outcome
+
+-- 9: a lent output is too short, 180 bytes for lines and 4 for each finding
+unfoldable pub handed : Reduced → ℕ → ℕ → Outcome
+handed r lines findings = cond (ltb lines 180 || ltb findings (4 * r .findings .count)) (refused 9 0) (reduced r)
+
+-- 10: no run of that number
+abbrev pub ofRun : List ℕ → Which → ℕ → ℕ → Outcome
+ofRun s Nothing lines findings = refused 10 0
+ofRun s (RunAt k) lines findings = handed (reducedRun s k) lines findings
+
+-- the reader's 1 to 8 come first
+abbrev pub ofTrouble : Trouble → List ℕ → ℕ → ℕ → ℕ → Outcome
+ofTrouble (At number place) s run lines findings = refused number place
+ofTrouble Clear s run lines findings = ofRun s (runNamed s run (runCountOf s)) lines findings
+
+-- From the job's bytes, the run's number and the lengths of the two outputs
+unfoldable pub outcome : List ℕ → ℕ → ℕ → ℕ → Outcome
+outcome s run lines findings = ofTrouble (jobTrouble s) s run lines findings
+
+-- how many findings, and 65,536 more if the run is accepted
+unfoldable pub success : ℕ → Bool → ℕ
+success count accepted = cond accepted (count + 65536) count
+
+-- the answer to each outcome
+unfoldable pub answerOf : Outcome → Answer
+answerOf (refused number place) = Refused number place
+answerOf (reduced r) = Done (success (r .findings .count) (r .accepted))
+
+-- the lines' buffer afterwards: a refusal changes no byte, success none past the lines
+unfoldable pub linesAfter : Outcome → List ℕ → List ℕ
+linesAfter (refused number place) old = old
+linesAfter (reduced r) old = spliced old 0 (sheetBytes (r .sheet))
+
+-- the findings' buffer afterwards
+unfoldable pub findingsAfter : Outcome → List ℕ → List ℕ
+findingsAfter (refused number place) old = old
+findingsAfter (reduced r) old = spliced old 0 (findingsBytes (r .findings .list) (r .findings .count))
+
+-- the answer and both buffers are an outcome's
+pub record Came (o : Outcome) (linesIn findingsIn linesOut findingsOut : List ℕ) (a : Answer) : Type 0 where
+  pub answer : a ≡ answerOf o
+  pub lines : linesOut ≡ linesAfter o linesIn
+  pub findings : findingsOut ≡ findingsAfter o findingsIn
+
+abbrev pub Handed : Reduced → List ℕ → List ℕ → List ℕ → List ℕ → Answer → Type 0
+Handed r lines findings linesOut findingsOut a = Came (handed r (length lines) (length findings)) lines findings linesOut findingsOut a
+
+abbrev pub Answers : List ℕ → ℕ → List ℕ → List ℕ → List ℕ → List ℕ → Answer → Type 0
+Answers s run lines findings linesOut findingsOut a = Came (outcome s run (length lines) (length findings)) lines findings linesOut findingsOut a
+
+-- leverbonnet_reduce: its answer, and every byte of both buffers
+pub record Reduces (s : List ℕ) (run : ℕ) (linesIn findingsIn linesOut findingsOut : List ℕ) (r : ℕ) : Type 0 where
+  pub answer : r ≡ packed (answerOf (outcome s run (length linesIn) (length findingsIn)))
+  pub lines : linesOut ≡ linesAfter (outcome s run (length linesIn) (length findingsIn)) linesIn
+  pub findings : findingsOut ≡ findingsAfter (outcome s run (length linesIn) (length findingsIn)) findingsIn
+
+-- leverbonnet_run_count
+abbrev pub countOf : Trouble → List ℕ → Answer
+countOf (At number place) s = Refused number place
+countOf Clear s = Done (runCountOf s)
+
+unfoldable pub countAnswer : List ℕ → Answer
+countAnswer s = countOf (jobTrouble s) s
+
+-- leverbonnet_run_number: an index past the last is refused 10
+abbrev pub numberOf : Trouble → List ℕ → ℕ → Answer
+numberOf (At number place) s index = Refused number place
+numberOf Clear s index = cond (leb (runCountOf s) index) (Refused 10 0) (Done (runOf s index .number))
+
+unfoldable pub numberAnswer : List ℕ → ℕ → Answer
+numberAnswer s index = numberOf (jobTrouble s) s index

@@ -1,0 +1,3 @@
+-- What the public calls answer, and what they write.
+pub mod Bytes
+pub mod Calls

@@ -1,0 +1,93 @@
+// The calls on a job, with their answers as enums.
+
+use crate::writing::put_findings;
+use crate::writing::put_sheet;
+use fields::numbers;
+use fields::trouble::Trouble;
+use output::Answer;
+use reduction::Reduced;
+use reduction::Which;
+use reduction::find_run;
+ghost use mathlib.Core.Path.{_≡_};
+ghost use Prim.Native.Nat.{_≤_};
+ghost use Rattle.leverbonnet.specs.Calls.{success, Handed, Answers, countAnswer, numberAnswer};
+
+// No run of that number, and a lent output that is too short.
+const NO_RUN: u32 = 10;
+
+const TOO_SHORT: u32 = 9;
+
+// The bytes of a sheet.
+const SHEET: usize = 180;
+
+// How many findings, and 65,536 more if the run is accepted.
+fn success(count: usize, accepted: bool) -> u32
+    requires { ⌜ count ≤ 98 ⌝ }
+    ensures { λ r. ⌜ r ≡ success count accepted ⌝ }
+{
+    if accepted {
+        return count as u32 + 65536;
+    }
+    count as u32
+}
+
+// Hands a reduced run over in two buffers, or refuses before a byte is written.
+fn hand_over(done: Reduced, lines: &mut [u8], findings: &mut [u8]) -> Answer
+    requires { ⌜ done .findings .count ≤ 98 ⌝ }
+    ensures { λ r. ⌜ Handed done (now (lines .entry)) (now (findings .entry)) (now (lines .exit)) (now (findings .exit)) r ⌝ }
+{
+    let sheet = done.sheet;
+    let found = done.findings;
+    if lines.len() < SHEET {
+        return Answer::Refused(TOO_SHORT, 0);
+    }
+    if findings.len() < 4 * found.count {
+        return Answer::Refused(TOO_SHORT, 0);
+    }
+    put_sheet(lines, sheet);
+    put_findings(findings, found);
+    Answer::Done(success(found.count, done.accepted))
+}
+
+// Works the run of that number into two buffers.
+pub fn reduce(job: &[u8], run: u16, lines: &mut [u8], findings: &mut [u8]) -> Answer
+    ensures { λ r. ⌜ Answers (now (job .entry)) run (now (lines .entry)) (now (findings .entry)) (now (lines .exit)) (now (findings .exit)) r ⌝ }
+{
+    let read = job::read(job);
+    let trouble = read.trouble;
+    if let Trouble::At(number, place) = trouble {
+        return Answer::Refused(number, place as u32);
+    }
+    let which = find_run(job, read, run);
+    let Which::Run(k) = which else {
+        return Answer::Refused(NO_RUN, 0);
+    };
+    hand_over(reduction::reduce(job, read, k), lines, findings)
+}
+
+pub fn run_count(job: &[u8]) -> Answer
+    ensures { λ r. ⌜ r ≡ countAnswer (now (job .entry)) ⌝ }
+{
+    let read = job::read(job);
+    let trouble = read.trouble;
+    if let Trouble::At(number, place) = trouble {
+        return Answer::Refused(number, place as u32);
+    }
+    Answer::Done(read.runs as u32)
+}
+
+pub fn run_number(job: &[u8], index: u16) -> Answer
+    ensures { λ r. ⌜ r ≡ numberAnswer (now (job .entry)) index ⌝ }
+{
+    let read = job::read(job);
+    let trouble = read.trouble;
+    if let Trouble::At(number, place) = trouble {
+        return Answer::Refused(number, place as u32);
+    }
+    let k = index as usize;
+    if read.runs <= k {
+        return Answer::Refused(NO_RUN, 0);
+    }
+    let starts = read.starts;
+    Answer::Done(numbers::u16_at(numbers::tail(job, starts[k]), 0) as u32)
+}
