@@ -33,22 +33,23 @@ impl Arguments {
             return Err("Give either --library-only or --sheet, not both.".into());
         }
         if given.calls.is_none() {
-            given.calls = command_in("LEVERBONNET_CALLS");
+            given.calls = command_in("LEVERBONNET_CALLS")?;
         }
         if given.sheet.is_none() && !given.library_only {
-            given.sheet = command_in("SHEET");
+            given.sheet = command_in("SHEET")?;
         }
         Ok(given)
     }
 }
 
 fn command_after(word: &str, text: Option<String>) -> Result<CommandLine, String> {
-    text.and_then(|text| CommandLine::split(&text))
-        .ok_or(format!(
-            "{word} needs a command after it, as one argument with its words apart by spaces."
-        ))
+    let text = text.ok_or(format!("{word} needs a command after it, as one argument."))?;
+    CommandLine::split(&text)
 }
 
-fn command_in(variable: &str) -> Option<CommandLine> {
-    CommandLine::split(&env::var(variable).ok()?)
+fn command_in(variable: &str) -> Result<Option<CommandLine>, String> {
+    match env::var(variable) {
+        Ok(text) => CommandLine::split(&text).map(Some),
+        Err(_) => Ok(None),
+    }
 }

@@ -11,7 +11,8 @@ pub const FINDING_LENGTH: usize = 4;
 /// Added to the number of findings of an accepted run.
 const ACCEPTED: u32 = 65_536;
 
-/// Bytes kept around each lent output; no side may change them.
+/// Bytes kept around each output lent within this program; no side may change
+/// them.
 const GUARD: usize = 32;
 
 #[derive(Clone, Copy, Debug, PartialEq, Eq)]
@@ -79,24 +80,30 @@ impl Outcome {
     /// The lent bytes of the call's output of that index, without guards.
     pub fn output(&self, index: usize) -> &[u8] {
         let lent = &self.lent[index];
-        &lent.bytes[GUARD..GUARD + lent.length]
+        &lent.bytes[lent.guard..lent.guard + lent.length]
     }
 }
 
 #[derive(Clone, Debug, PartialEq, Eq)]
 struct Lent {
     bytes: Vec<u8>,
+    guard: usize,
     length: usize,
 }
 
 impl Lent {
     fn new(length: usize, fill: Fill) -> Self {
-        let bytes = (0..length + 2 * GUARD).map(|at| fill.byte(at)).collect();
-        Lent { bytes, length }
+        let guard = fill.guard();
+        let bytes = (0..length + 2 * guard).map(|at| fill.byte(at)).collect();
+        Lent {
+            bytes,
+            guard,
+            length,
+        }
     }
 
     fn middle(&mut self) -> &mut [u8] {
-        &mut self.bytes[GUARD..GUARD + self.length]
+        &mut self.bytes[self.guard..self.guard + self.length]
     }
 }
 
@@ -107,7 +114,7 @@ pub enum Fill {
     /// Unlike from place to place, so that a byte moved shows too.
     Pattern,
     Complement,
-    /// The same everywhere.
+    /// The same everywhere and without guards, for a call made elsewhere.
     Even(u8),
 }
 
@@ -118,6 +125,13 @@ impl Fill {
             Fill::Pattern => pattern,
             Fill::Complement => !pattern,
             Fill::Even(byte) => byte,
+        }
+    }
+
+    fn guard(self) -> usize {
+        match self {
+            Fill::Pattern | Fill::Complement => GUARD,
+            Fill::Even(_) => 0,
         }
     }
 }
@@ -156,7 +170,7 @@ impl Call {
     }
 
     /// What a call made elsewhere came to: its answer, and its outputs one after
-    /// the other. Nobody saw guards there, so they stand as they were filled.
+    /// the other.
     pub fn told(self, answer: u64, outputs: &[u8], fill: Fill) -> Outcome {
         let mut lent = self.lent(fill);
         let mut rest = outputs;
@@ -195,11 +209,15 @@ impl fmt::Display for Outcome {
             number => write!(f, "refusal {number} at {}", self.value())?,
         }
         for lent in &self.lent {
-            let (before, rest) = lent.bytes.split_at(GUARD);
+            let (before, rest) = lent.bytes.split_at(lent.guard);
             let (output, after) = rest.split_at(lent.length);
-            write!(f, "\n  bytes before the output {}", hex(before))?;
+            if lent.guard > 0 {
+                write!(f, "\n  bytes before the output {}", hex(before))?;
+            }
             write!(f, "\n  output                  {}", hex(output))?;
-            write!(f, "\n  bytes after the output  {}", hex(after))?;
+            if lent.guard > 0 {
+                write!(f, "\n  bytes after the output  {}", hex(after))?;
+            }
         }
         Ok(())
     }

@@ -2,6 +2,7 @@
 //! an emulator and a loader, these come first.
 
 use std::fmt;
+use std::path::Path;
 use std::process::Command;
 
 #[derive(Debug)]
@@ -11,11 +12,16 @@ pub struct CommandLine {
 }
 
 impl CommandLine {
-    /// Splits the text at spaces, so no word can hold one. None if it is blank.
-    pub fn split(text: &str) -> Option<Self> {
+    /// Splits the text at spaces, so no word can hold one.
+    pub fn split(text: &str) -> Result<Self, String> {
         let mut words = text.split_whitespace().map(String::from);
-        Some(CommandLine {
-            program: words.next()?,
+        let program = words.next().ok_or("A command cannot be blank.")?;
+        // A name without a slash is looked for when it is started.
+        if program.contains('/') && !Path::new(&program).is_file() {
+            return Err(format!("There is no program {program}."));
+        }
+        Ok(CommandLine {
+            program,
             arguments: words.collect(),
         })
     }

@@ -41,7 +41,7 @@ pub fn calls(extent: &Extent) -> impl Iterator<Item = Call> {
 }
 
 fn is_round_count(points: u16) -> bool {
-    (2..=24).contains(&points) && points % 2 == 0
+    (2..=24).contains(&points) && points.is_multiple_of(2)
 }
 
 fn round_limits(every_pairing: bool) -> impl Iterator<Item = Call> {
