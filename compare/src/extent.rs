@@ -40,10 +40,11 @@ pub const FULL: Extent = Extent {
     },
 };
 
-/// Few enough for emulated calls: some minutes, and some 300 sheets.
+/// Few enough for emulated calls, of which there are then some 450,000, and for
+/// emulated programs, of which each sheet starts one.
 pub const LIGHT: Extent = Extent {
-    damaged_jobs: 6_000,
-    random_jobs: 3_000,
+    damaged_jobs: 9_000,
+    random_jobs: 4_000,
     longest_jobs: 4,
     random_rectangles: 4_000,
     every_value: false,

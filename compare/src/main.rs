@@ -2,13 +2,14 @@
 //! program, byte for byte, and fails on the first disagreement. What the jobs
 //! reached is counted and shown; a count that must not be 0 fails it too.
 //!
-//!     compare --sheet COMMAND     compares library and program (or set SHEET)
-//!     compare --library-only      leaves the program out, on purpose
-//!     compare --calls COMMAND ..  reaches the library by a program that makes its
-//!                                 calls over pipes (or set LEVERBONNET_CALLS)
+//!     --sheet COMMAND   the program `sheet` (or set SHEET)
+//!     --library-only    leaves the program out, on purpose
+//!     --calls COMMAND   a program that makes the library's calls over pipes (or
+//!                       set LEVERBONNET_CALLS); without it the library is linked,
+//!                       which can be done on x86-64
 //!
-//! Without --calls the library is linked, on x86-64. A command is one argument,
-//! its words apart by spaces, such as `scripts/run-program --print` prints.
+//! A command is one argument with its words apart by spaces, such as
+//! `scripts/run-program --print` prints.
 
 #![forbid(unsafe_code)]
 

@@ -136,3 +136,35 @@ impl Running {
         }
     }
 }
+
+#[cfg(test)]
+mod tests {
+    use super::*;
+
+    const ROOMY: Call = Call::Reduce {
+        run: 7,
+        lines_len: 191,
+        findings_len: 440,
+    };
+
+    #[test]
+    fn answers_of_a_batch_fit_a_pipe() {
+        let calls = [(ROOMY, Fill::Even(0)); 64];
+        let length = batch_length(&calls);
+        let waiting = length * request::response_length(ROOMY);
+        assert!((1..64).contains(&length) && waiting <= MOST_WAITING);
+        assert_eq!(batch_length(&calls[..3]), 3);
+    }
+
+    #[test]
+    fn a_program_that_ends_early_is_told_and_started_again() {
+        let piped = Piped::started(CommandLine::split("false").unwrap()).unwrap();
+        for _ in 0..2 {
+            let made = piped.made(&[(ROOMY, Fill::Even(0)); 3], b"SRJ");
+            let [Err(trouble)] = &made[..] else {
+                panic!("the first call is the only one told");
+            };
+            assert!(trouble.contains("false ended with exit status: 1"));
+        }
+    }
+}
