@@ -1,5 +1,6 @@
 //! Links the proved library's archive: `target/staticlib/libleverbonnet.a` of
-//! the workspace, or the one in LEVERBONNET_LIB_DIR.
+//! the workspace, or the one in LEVERBONNET_LIB_DIR. The archive is for x86-64;
+//! for another processor there is nothing to link, and the package is empty.
 
 use std::env;
 use std::path::{Path, PathBuf};
@@ -7,9 +8,23 @@ use std::process::ExitCode;
 
 const ARCHIVE: &str = "libleverbonnet.a";
 const OVERRIDE: &str = "LEVERBONNET_LIB_DIR";
+const PROCESSOR: &str = "x86_64";
 
 fn main() -> ExitCode {
     println!("cargo:rerun-if-env-changed={OVERRIDE}");
+    let processor = env::var("CARGO_CFG_TARGET_ARCH").expect("cargo names the processor");
+    if processor != PROCESSOR {
+        println!("cargo:rerun-if-changed=build.rs");
+        println!(
+            "cargo:warning=The proved library's archive is for x86-64: on {processor} nothing \
+             is linked, and this package has no calls."
+        );
+        return ExitCode::SUCCESS;
+    }
+    linked()
+}
+
+fn linked() -> ExitCode {
     let folder = archive_folder();
     let archive = folder.join(ARCHIVE);
     println!("cargo:rerun-if-changed={}", archive.display());

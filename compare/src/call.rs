@@ -1,4 +1,4 @@
-//! One call made on both sides with the same lent bytes, and what came back.
+//! One call, the bytes lent to it, and what came back.
 
 use std::fmt;
 
@@ -11,7 +11,8 @@ pub const FINDING_LENGTH: usize = 4;
 /// Added to the number of findings of an accepted run.
 const ACCEPTED: u32 = 65_536;
 
-/// Bytes kept around each lent output; neither side may change them.
+/// Bytes kept around each output lent within this program; no side may change
+/// them.
 const GUARD: usize = 32;
 
 #[derive(Clone, Copy, Debug, PartialEq, Eq)]
@@ -39,30 +40,14 @@ pub enum Call {
     },
 }
 
-/// The five calls of one side.
-struct Side {
-    reduce: fn(&[u8], u16, &mut [u8], &mut [u8]) -> u64,
-    run_count: fn(&[u8]) -> u64,
-    run_number: fn(&[u8], u16) -> u64,
-    round_layout: fn(u16, u16, u16, &mut [u8]) -> u64,
-    rect_layout: fn(u16, u16, u16, &mut [u8]) -> u64,
+/// The five calls of a side that is part of this program.
+pub struct Side {
+    pub reduce: fn(&[u8], u16, &mut [u8], &mut [u8]) -> u64,
+    pub run_count: fn(&[u8]) -> u64,
+    pub run_number: fn(&[u8], u16) -> u64,
+    pub round_layout: fn(u16, u16, u16, &mut [u8]) -> u64,
+    pub rect_layout: fn(u16, u16, u16, &mut [u8]) -> u64,
 }
-
-const PROVED: Side = Side {
-    reduce: leverbonnet::reduce,
-    run_count: leverbonnet::run_count,
-    run_number: leverbonnet::run_number,
-    round_layout: leverbonnet::round_layout,
-    rect_layout: leverbonnet::rect_layout,
-};
-
-const INDEPENDENT: Side = Side {
-    reduce: independent::reduce,
-    run_count: independent::run_count,
-    run_number: independent::run_number,
-    round_layout: independent::round_layout,
-    rect_layout: independent::rect_layout,
-};
 
 /// An answer, and every lent buffer with its guards as the call left it.
 #[derive(Clone, Debug, PartialEq, Eq)]
@@ -95,74 +80,65 @@ impl Outcome {
     /// The lent bytes of the call's output of that index, without guards.
     pub fn output(&self, index: usize) -> &[u8] {
         let lent = &self.lent[index];
-        &lent.bytes[GUARD..GUARD + lent.length]
+        &lent.bytes[lent.guard..lent.guard + lent.length]
     }
 }
 
 #[derive(Clone, Debug, PartialEq, Eq)]
 struct Lent {
     bytes: Vec<u8>,
+    guard: usize,
     length: usize,
 }
 
 impl Lent {
     fn new(length: usize, fill: Fill) -> Self {
-        let bytes = (0..length + 2 * GUARD).map(|at| fill.byte(at)).collect();
-        Lent { bytes, length }
+        let guard = fill.guard();
+        let bytes = (0..length + 2 * guard).map(|at| fill.byte(at)).collect();
+        Lent {
+            bytes,
+            guard,
+            length,
+        }
     }
 
     fn middle(&mut self) -> &mut [u8] {
-        &mut self.bytes[GUARD..GUARD + self.length]
+        &mut self.bytes[self.guard..self.guard + self.length]
     }
 }
 
 /// What lent bytes hold before a call. A byte written with the value it already
-/// had shows under the other fill.
+/// had shows under another fill.
 #[derive(Clone, Copy, Debug)]
-enum Fill {
+pub enum Fill {
+    /// Unlike from place to place, so that a byte moved shows too.
     Pattern,
     Complement,
+    /// The same everywhere and without guards, for a call made elsewhere.
+    Even(u8),
 }
 
 impl Fill {
-    fn byte(self, at: usize) -> u8 {
+    pub fn byte(self, at: usize) -> u8 {
         let pattern = (at as u8).wrapping_mul(151).wrapping_add(17);
         match self {
             Fill::Pattern => pattern,
             Fill::Complement => !pattern,
+            Fill::Even(byte) => byte,
         }
     }
-}
 
-/// A call on which the two sides part, and what each gave.
-pub struct Difference {
-    pub what: String,
-    pub proved: String,
-    pub independent: String,
+    fn guard(self) -> usize {
+        match self {
+            Fill::Pattern | Fill::Complement => GUARD,
+            Fill::Even(_) => 0,
+        }
+    }
 }
 
 impl Call {
-    /// What both sides give under the plain fill, when they agree in every byte
-    /// under both.
-    pub fn agreed(self, job: &[u8]) -> Result<Outcome, Difference> {
-        self.agreed_filled(job, Fill::Complement)?;
-        self.agreed_filled(job, Fill::Pattern)
-    }
-
-    fn agreed_filled(self, job: &[u8], fill: Fill) -> Result<Outcome, Difference> {
-        let proved = self.made(&PROVED, job, fill);
-        let independent = self.made(&INDEPENDENT, job, fill);
-        if proved == independent {
-            return Ok(independent);
-        }
-        Err(Difference {
-            what: format!("{self:?}, outputs filled with {fill:?}"),
-            proved: proved.to_string(),
-            independent: independent.to_string(),
-        })
-    }
-
-    fn made(self, side: &Side, job: &[u8], fill: Fill) -> Outcome {
+    /// Makes the call on a side.
+    pub fn made(self, side: &Side, job: &[u8], fill: Fill) -> Outcome {
         let mut lent = self.lent(fill);
         let answer = match (self, &mut lent[..]) {
             (Call::RunCount, []) => (side.run_count)(job),
@@ -193,8 +169,23 @@ impl Call {
         Outcome { answer, lent }
     }
 
-    fn lent(self, fill: Fill) -> Vec<Lent> {
-        let lengths = match self {
+    /// What a call made elsewhere came to: its answer, and its outputs one after
+    /// the other.
+    pub fn told(self, answer: u64, outputs: &[u8], fill: Fill) -> Outcome {
+        let mut lent = self.lent(fill);
+        let mut rest = outputs;
+        for output in &mut lent {
+            let (bytes, more) = rest.split_at(output.length);
+            output.middle().copy_from_slice(bytes);
+            rest = more;
+        }
+        assert!(rest.is_empty(), "the outputs are as long as they were lent");
+        Outcome { answer, lent }
+    }
+
+    /// The length of each output that is lent.
+    pub fn output_lengths(self) -> Vec<usize> {
+        match self {
             Call::RunCount | Call::RunNumber { .. } => vec![],
             Call::Reduce {
                 lines_len,
@@ -202,8 +193,11 @@ impl Call {
                 ..
             } => vec![lines_len, findings_len],
             Call::RoundLayout { out_len, .. } | Call::RectLayout { out_len, .. } => vec![out_len],
-        };
-        let lengths = lengths.into_iter();
+        }
+    }
+
+    fn lent(self, fill: Fill) -> Vec<Lent> {
+        let lengths = self.output_lengths().into_iter();
         lengths.map(|length| Lent::new(length, fill)).collect()
     }
 }
@@ -215,11 +209,15 @@ impl fmt::Display for Outcome {
             number => write!(f, "refusal {number} at {}", self.value())?,
         }
         for lent in &self.lent {
-            let (before, rest) = lent.bytes.split_at(GUARD);
+            let (before, rest) = lent.bytes.split_at(lent.guard);
             let (output, after) = rest.split_at(lent.length);
-            write!(f, "\n  bytes before the output {}", hex(before))?;
+            if lent.guard > 0 {
+                write!(f, "\n  bytes before the output {}", hex(before))?;
+            }
             write!(f, "\n  output                  {}", hex(output))?;
-            write!(f, "\n  bytes after the output  {}", hex(after))?;
+            if lent.guard > 0 {
+                write!(f, "\n  bytes after the output  {}", hex(after))?;
+            }
         }
         Ok(())
     }

@@ -2,10 +2,12 @@
 //! ways, or the program's printed sheet.
 
 use std::io::{self, Write};
-use std::path::Path;
-use std::process::{Command, Stdio};
+use std::process::Stdio;
 
-use crate::call::{Call, Difference, FINDING_LENGTH, LINES_LENGTH};
+use crate::agreement::{agreed, Difference};
+use crate::call::{Call, FINDING_LENGTH, LINES_LENGTH};
+use crate::command::CommandLine;
+use crate::proved::Proved;
 use crate::tally::Tally;
 
 /// Room for the lines and findings of any run, and then some.
@@ -14,64 +16,70 @@ const ROOMY_FINDINGS: usize = FINDING_LENGTH * 110;
 
 /// Compares every call on the job. Answers the number of its refusal, 0 if it
 /// is read.
-pub fn library(job: &[u8], tally: &mut Tally) -> Result<u32, Difference> {
+pub fn library(proved: &Proved, job: &[u8], tally: &mut Tally) -> Result<u32, Difference> {
     tally.jobs += 1;
-    let counted = Call::RunCount.agreed(job)?;
+    let agreed = |calls: &[Call]| agreed(proved, calls, job);
+    let counted = agreed(&[Call::RunCount])?.remove(0);
     tally.count(&counted);
     let runs = match counted.refusal() {
         0 => counted.value() as u16,
         _ => 0,
     };
+    let indexes = (0..=runs).chain([u16::MAX]);
+    let by_index: Vec<Call> = indexes.map(|index| Call::RunNumber { index }).collect();
     let mut numbers = Vec::new();
-    for index in (0..=runs).chain([u16::MAX]) {
-        let numbered = Call::RunNumber { index }.agreed(job)?;
+    for numbered in agreed(&by_index)? {
         tally.count(&numbered);
         if numbered.refusal() == 0 {
             numbers.push(numbered.value() as u16);
         }
     }
-    for &run in &numbers {
-        reduced(job, run, tally)?;
+    let roomy: Vec<Call> = numbers
+        .iter()
+        .map(|&run| reduce(run, ROOMY_LINES, ROOMY_FINDINGS))
+        .collect();
+    let mut others = Vec::new();
+    for (&run, reduced) in numbers.iter().zip(agreed(&roomy)?) {
+        tally.count_reduced(&reduced);
+        others.extend(about_need(run, FINDING_LENGTH * reduced.findings()));
     }
     let next = numbers.last().map_or(7, |last| last + 1);
-    for absent in [0, next, u16::MAX] {
-        let call = Call::Reduce {
-            run: absent,
-            lines_len: 0,
-            findings_len: ROOMY_FINDINGS,
-        };
-        tally.count(&call.agreed(job)?);
+    others.extend([0, next, u16::MAX].map(|absent| reduce(absent, 0, ROOMY_FINDINGS)));
+    for outcome in agreed(&others)? {
+        tally.count(&outcome);
     }
     Ok(counted.refusal())
 }
 
-/// The run with ample outputs, with the shortest that serve, and with either
-/// one byte too short.
-fn reduced(job: &[u8], run: u16, tally: &mut Tally) -> Result<(), Difference> {
-    let reduce = |lines_len, findings_len| Call::Reduce {
+fn reduce(run: u16, lines_len: usize, findings_len: usize) -> Call {
+    Call::Reduce {
         run,
         lines_len,
         findings_len,
-    };
-    let roomy = reduce(ROOMY_LINES, ROOMY_FINDINGS).agreed(job)?;
-    tally.count_reduced(&roomy);
-    let needed = FINDING_LENGTH * roomy.findings();
-    tally.count(&reduce(LINES_LENGTH, needed).agreed(job)?);
-    tally.count(&reduce(LINES_LENGTH - 1, needed).agreed(job)?);
-    if needed > 0 {
-        tally.count(&reduce(LINES_LENGTH, needed - 1).agreed(job)?);
     }
-    Ok(())
+}
+
+/// The run with the shortest outputs that serve, and with either one byte too
+/// short.
+fn about_need(run: u16, findings_len: usize) -> Vec<Call> {
+    let mut calls = vec![
+        reduce(run, LINES_LENGTH, findings_len),
+        reduce(run, LINES_LENGTH - 1, findings_len),
+    ];
+    if findings_len > 0 {
+        calls.push(reduce(run, LINES_LENGTH, findings_len - 1));
+    }
+    calls
 }
 
 /// Compares what the program prints for the job on standard input.
-pub fn sheet(program: &Path, job: &[u8]) -> Result<(), Difference> {
+pub fn sheet(program: &CommandLine, job: &[u8]) -> Result<(), Difference> {
     let expected = independent::sheet(job);
     let printed = printed_by(program, job);
     match printed {
         Ok(text) if text == expected => Ok(()),
         other => Err(Difference {
-            what: format!("what {} prints", program.display()),
+            what: format!("what {program} prints"),
             proved: match other {
                 Ok(text) => String::from_utf8_lossy(&text).into_owned(),
                 Err(trouble) => format!("could not be run: {trouble}"),
@@ -82,8 +90,9 @@ pub fn sheet(program: &Path, job: &[u8]) -> Result<(), Difference> {
 }
 
 /// The rules say nothing of an exit status, so only being killed is an error.
-fn printed_by(program: &Path, job: &[u8]) -> io::Result<Vec<u8>> {
-    let mut child = Command::new(program)
+fn printed_by(program: &CommandLine, job: &[u8]) -> io::Result<Vec<u8>> {
+    let mut child = program
+        .command()
         .stdin(Stdio::piped())
         .stdout(Stdio::piped())
         .spawn()?;

@@ -2,17 +2,28 @@
 //! program, byte for byte, and fails on the first disagreement. What the jobs
 //! reached is counted and shown; a count that must not be 0 fails it too.
 //!
-//!     compare --sheet PATH        compares library and program (or set SHEET)
-//!     compare --library-only      leaves the program out, on purpose
+//!     --sheet COMMAND   the program `sheet` (or set SHEET)
+//!     --library-only    leaves the program out, on purpose
+//!     --calls COMMAND   a program that makes the library's calls over pipes (or
+//!                       set LEVERBONNET_CALLS); without it the library is linked,
+//!                       which can be done on x86-64
+//!
+//! A command is one argument with its words apart by spaces, such as
+//! `scripts/run-program --print` prints.
 
 #![forbid(unsafe_code)]
 
+mod agreement;
+mod arguments;
 mod call;
 mod case;
 mod cases;
 mod check;
+mod command;
+mod extent;
 mod fields;
 mod invent;
+mod proved;
 mod random;
 mod report;
 mod runner;
@@ -20,93 +31,77 @@ mod shrink;
 mod spoil;
 mod tally;
 
-use std::path::PathBuf;
 use std::process::ExitCode;
 
+use crate::arguments::Arguments;
+use crate::command::CommandLine;
+use crate::proved::Proved;
 use crate::report::Failure;
 use crate::runner::Section;
 use crate::tally::Tally;
 
-const RANDOM_JOBS: u64 = 10_000;
-const DAMAGED_JOBS: u64 = 40_000;
-
-struct Arguments {
-    sheet: Option<PathBuf>,
-    library_only: bool,
-}
-
 fn main() -> ExitCode {
-    let arguments = match arguments() {
-        Ok(arguments) => arguments,
+    match compared() {
+        Ok(agreement) => {
+            println!("{agreement}");
+            ExitCode::SUCCESS
+        }
         Err(trouble) => {
-            eprintln!("{trouble}");
-            return ExitCode::FAILURE;
-        }
-    };
-    match compared(&arguments) {
-        Ok(unreached) if unreached.is_empty() => verdict(&arguments),
-        Ok(unreached) => {
-            println!("NOT REACHED: {}.", unreached.join("; "));
-            ExitCode::FAILURE
-        }
-        Err(failure) => {
-            println!("{failure}");
+            println!("{trouble}");
             ExitCode::FAILURE
         }
     }
 }
 
-fn arguments() -> Result<Arguments, String> {
-    let mut arguments = Arguments {
-        sheet: None,
-        library_only: false,
-    };
-    let mut words = std::env::args_os().skip(1);
-    while let Some(word) = words.next() {
-        match word.to_str() {
-            Some("--library-only") => arguments.library_only = true,
-            Some("--sheet") => {
-                let path = words.next().ok_or("--sheet needs a path after it.")?;
-                arguments.sheet = Some(PathBuf::from(path));
-            }
-            _ => return Err(format!("Unknown argument {}.", word.display())),
-        }
+/// What was found to agree, or why that cannot be said.
+fn compared() -> Result<&'static str, String> {
+    let mut given = Arguments::given()?;
+    let proved = Proved::reached(given.calls.take())?;
+    let unreached =
+        sections(&proved, given.sheet.as_ref()).map_err(|failure| failure.to_string())?;
+    proved.ended()?;
+    if !unreached.is_empty() {
+        return Err(format!("NOT REACHED: {}.", unreached.join("; ")));
     }
-    if arguments.library_only && arguments.sheet.is_some() {
-        return Err("Give either --library-only or --sheet, not both.".into());
-    }
-    if !arguments.library_only && arguments.sheet.is_none() {
-        arguments.sheet = std::env::var_os("SHEET").map(PathBuf::from);
-    }
-    match &arguments.sheet {
-        Some(path) if !path.is_file() => Err(format!("There is no program {}.", path.display())),
-        _ => Ok(arguments),
+    match (given.sheet, given.library_only) {
+        (Some(_), _) => Ok("The library and the program agree with the independent program."),
+        (None, true) => Ok("The library agrees; the program sheet was not compared, as asked."),
+        (None, false) => Err(
+            "The library agrees, but the program sheet WAS NOT COMPARED: give its command \
+             with --sheet, or ask for --library-only."
+                .into(),
+        ),
     }
 }
 
 /// Answers what should have been reached and was not.
-fn compared(arguments: &Arguments) -> Result<Vec<String>, Failure> {
+fn sections(proved: &Proved, sheet: Option<&CommandLine>) -> Result<Vec<String>, Failure> {
+    let extent = proved.extent();
     let mut all = Tally::default();
 
     let worked = std::iter::once(cases::worked::whole())
         .chain(cases::worked::truncations())
-        .chain(cases::worked::every_change());
-    all.add(&Section::new("worked job").library(worked)?);
+        .chain(cases::worked::changes(extent.every_value));
+    all.add(&Section::new("worked job").library(proved, worked)?);
 
-    let damaged = Section::new("damaged jobs").library(cases::damaged::cases(DAMAGED_JOBS))?;
+    let damaged = cases::damaged::cases(extent.damaged_jobs);
+    let damaged = Section::new("damaged jobs").library(proved, damaged)?;
     all.add(&damaged);
 
-    let random = Section::new("random jobs").library(cases::random::cases(RANDOM_JOBS))?;
+    let random = cases::random::cases(extent.random_jobs);
+    let random = Section::new("random jobs").library(proved, random)?;
     println!("{random}");
     all.add(&random);
 
-    all.add(&Section::new("longest jobs").library(cases::longest::cases())?);
-    all.add(&Section::new("output lengths").outputs(cases::outputs::cases())?);
-    all.add(&Section::new("layouts").layouts(cases::layouts::calls())?);
+    let longest = cases::longest::cases(extent.longest_jobs);
+    all.add(&Section::new("longest jobs").library(proved, longest)?);
+    all.add(&Section::new("output lengths").outputs(proved, cases::outputs::cases())?);
+    all.add(&Section::new("layouts").layouts(proved, cases::layouts::calls(extent))?);
     println!("all refusals: {}", all.refusals_text());
 
-    if let Some(program) = &arguments.sheet {
-        Section::new("printed sheets").sheets(program, cases::sheet::cases())?;
+    if let Some(program) = sheet {
+        let cases = cases::sheet::cases(&extent.sheets);
+        Section::new("printed sheets").sheets(program, cases)?;
     }
     let mut unreached = random.unreached_by_reading();
     // The damaged jobs reach what a job's reading and its runs can refuse; 11
@@ -114,24 +109,4 @@ fn compared(arguments: &Arguments) -> Result<Vec<String>, Failure> {
     unreached.extend(damaged.unreached_refusals(1..=10));
     unreached.extend(all.unreached_refusals(11..=11));
     Ok(unreached)
-}
-
-fn verdict(arguments: &Arguments) -> ExitCode {
-    match (&arguments.sheet, arguments.library_only) {
-        (Some(_), _) => {
-            println!("The library and the program agree with the independent program.");
-            ExitCode::SUCCESS
-        }
-        (None, true) => {
-            println!("The library agrees; the program sheet was not compared, as asked.");
-            ExitCode::SUCCESS
-        }
-        (None, false) => {
-            println!(
-                "The library agrees, but the program sheet WAS NOT COMPARED: give its path \
-                 with --sheet, or ask for --library-only."
-            );
-            ExitCode::FAILURE
-        }
-    }
 }

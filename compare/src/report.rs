@@ -3,7 +3,8 @@
 
 use std::fmt;
 
-use crate::call::{hex, Difference};
+use crate::agreement::Difference;
+use crate::call::hex;
 
 pub struct Failure {
     pub case: String,

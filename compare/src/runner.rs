@@ -1,16 +1,21 @@
 //! Runs one section of the comparison, shrinks its first disagreement, and says
 //! how much it compared and how long that took.
 
-use std::path::Path;
 use std::time::Instant;
 
-use crate::call::{Call, Difference};
+use crate::agreement::{agreed, Difference};
+use crate::call::Call;
 use crate::case::{Case, Expected};
 use crate::cases::outputs::Outputs;
 use crate::check;
+use crate::command::CommandLine;
+use crate::proved::Proved;
 use crate::report::Failure;
 use crate::shrink::smallest;
 use crate::tally::Tally;
+
+/// How many calls on one job, or on none, are compared at once.
+const TOGETHER: usize = 64;
 
 pub struct Section {
     name: &'static str,
@@ -28,10 +33,14 @@ impl Section {
     }
 
     /// Compares the library on every case.
-    pub fn library(mut self, cases: impl Iterator<Item = Case>) -> Result<Tally, Failure> {
+    pub fn library(
+        mut self,
+        proved: &Proved,
+        cases: impl Iterator<Item = Case>,
+    ) -> Result<Tally, Failure> {
+        let compared = |job: &[u8]| check::library(proved, job, &mut Tally::default()).map(drop);
         for case in cases {
-            let compared = |job: &[u8]| check::library(job, &mut Tally::default()).map(drop);
-            let refusal = check::library(&case.subject.bytes(), &mut self.tally)
+            let refusal = check::library(proved, &case.subject.bytes(), &mut self.tally)
                 .map_err(|difference| shrunk(&case, difference, &compared))?;
             if !case.expected.admits(refusal) {
                 return Err(unexpected(&case, "reading", case.expected, refusal));
@@ -41,10 +50,14 @@ impl Section {
     }
 
     /// Compares what the program prints on every case.
-    pub fn sheets(self, program: &Path, cases: impl Iterator<Item = Case>) -> Result<(), Failure> {
+    pub fn sheets(
+        self,
+        program: &CommandLine,
+        cases: impl Iterator<Item = Case>,
+    ) -> Result<(), Failure> {
+        let compared = |job: &[u8]| check::sheet(program, job);
         let mut jobs = 0;
         for case in cases {
-            let compared = |job: &[u8]| check::sheet(program, job);
             compared(&case.subject.bytes())
                 .map_err(|difference| shrunk(&case, difference, &compared))?;
             jobs += 1;
@@ -58,19 +71,22 @@ impl Section {
     }
 
     /// Compares the library with outputs of many lengths.
-    pub fn outputs(mut self, cases: Vec<Outputs>) -> Result<Tally, Failure> {
+    pub fn outputs(mut self, proved: &Proved, cases: Vec<Outputs>) -> Result<Tally, Failure> {
         for outputs in cases {
             let job = outputs.case.subject.bytes();
-            for (call, expected) in outputs.calls() {
-                let outcome = call.agreed(&job).map_err(|difference| {
-                    shrunk(&outputs.case, difference, &|job| call.agreed(job).map(drop))
-                })?;
-                if !expected.admits(outcome.refusal()) {
-                    let what = format!("{call:?}");
-                    let refusal = outcome.refusal();
-                    return Err(unexpected(&outputs.case, &what, expected, refusal));
+            for some in outputs.calls().chunks(TOGETHER) {
+                let calls: Vec<Call> = some.iter().map(|&(call, _)| call).collect();
+                let compared = |job: &[u8]| agreed(proved, &calls, job).map(drop);
+                let outcomes = agreed(proved, &calls, &job)
+                    .map_err(|difference| shrunk(&outputs.case, difference, &compared))?;
+                for (&(call, expected), outcome) in some.iter().zip(outcomes) {
+                    if !expected.admits(outcome.refusal()) {
+                        let what = format!("{call:?}");
+                        let refusal = outcome.refusal();
+                        return Err(unexpected(&outputs.case, &what, expected, refusal));
+                    }
+                    self.tally.count(&outcome);
                 }
-                self.tally.count(&outcome);
             }
             self.tally.jobs += 1;
         }
@@ -78,16 +94,25 @@ impl Section {
     }
 
     /// Compares the library's layouts, which take no job.
-    pub fn layouts(mut self, calls: impl Iterator<Item = Call>) -> Result<Tally, Failure> {
-        for call in calls {
-            let outcome = call.agreed(&[]).map_err(|difference| Failure {
+    pub fn layouts(
+        mut self,
+        proved: &Proved,
+        mut calls: impl Iterator<Item = Call>,
+    ) -> Result<Tally, Failure> {
+        loop {
+            let some: Vec<Call> = calls.by_ref().take(TOGETHER).collect();
+            if some.is_empty() {
+                return Ok(self.done());
+            }
+            let outcomes = agreed(proved, &some, &[]).map_err(|difference| Failure {
                 case: "layouts".into(),
                 job: None,
                 difference,
             })?;
-            self.tally.count(&outcome);
+            outcomes
+                .iter()
+                .for_each(|outcome| self.tally.count(outcome));
         }
-        Ok(self.done())
     }
 
     fn done(self) -> Tally {

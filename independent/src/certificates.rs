@@ -23,11 +23,13 @@ impl<'a> Chosen<'a> {
     /// Whether both meter certificates are there and the after factor lies
     /// more than 5 percent of the before factor away from it.
     pub fn factor_moved(&self) -> bool {
-        let (Some(before), Some(after)) = (self.meter_before, self.meter_after) else {
-            return false;
-        };
-        let difference = before.values[0].abs_diff(after.values[0]);
-        u32::from(difference) * 100 > u32::from(before.values[0]) * 5
+        match (self.meter_before, self.meter_after) {
+            (Some(before), Some(after)) => {
+                let difference = before.values[0].abs_diff(after.values[0]);
+                u32::from(difference) * 100 > u32::from(before.values[0]) * 5
+            }
+            _ => false,
+        }
     }
 
     /// Y in 1/10,000, known whenever the before certificate is there. An after

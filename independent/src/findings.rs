@@ -86,7 +86,7 @@ fn certificate_findings(list: &mut List, chosen: &Chosen) {
     list.whole_run(3, chosen.nozzle.is_none());
     list.whole_run(4, chosen.meter_after.is_none());
     list.whole_run(5, chosen.factor_moved());
-    list.whole_run(6, chosen.nozzle_diameters().is_some_and(is_out_of_round));
+    list.whole_run(6, chosen.nozzle_diameters().map_or(false, is_out_of_round));
 }
 
 fn is_out_of_round(diameters: [u16; 3]) -> bool {
@@ -120,7 +120,7 @@ fn points_suffice(run: &Run, diameter: Diameter) -> bool {
     };
     let points = run.points.len() as u16;
     let allowed = match run.shape {
-        Shape::Round => points.is_multiple_of(4),
+        Shape::Round => points % 4 == 0,
         Shape::Rectangular => grid(points).is_some(),
     };
     allowed && points >= least
@@ -142,10 +142,13 @@ fn volume_findings(list: &mut List, lines: &Lines) {
     list.whole_run(13, lines.line(6) == Some(0));
     list.whole_run(14, lines.line(15) == Some(0));
     let isokinetic = lines.line(18);
-    list.whole_run(15, isokinetic.is_some_and(|value| value < LEAST_ISOKINETIC));
+    list.whole_run(
+        15,
+        isokinetic.map_or(false, |value| value < LEAST_ISOKINETIC),
+    );
     list.whole_run(
         16,
-        isokinetic.is_some_and(|value| value > GREATEST_ISOKINETIC),
+        isokinetic.map_or(false, |value| value > GREATEST_ISOKINETIC),
     );
 }
 
@@ -156,5 +159,5 @@ fn weighing_findings(list: &mut List, run: &Run, lines: &Lines) {
     let none_of = |kind: WeighingKind| run.weighings.iter().all(|one| one.kind != kind);
     list.whole_run(18, none_of(WeighingKind::Filter));
     list.whole_run(19, none_of(WeighingKind::Rinse));
-    list.whole_run(20, lines.line(19).is_some_and(|catch| catch < 0));
+    list.whole_run(20, lines.line(19).map_or(false, |catch| catch < 0));
 }

@@ -13,7 +13,7 @@ const WALL_OF_SMALL: u16 = 500;
 /// The distances of the points on one diameter, 0.001 in, from the near wall.
 pub fn round_distances(points: u16, diameter: u16, nozzle: u16) -> Result<Vec<u32>, Refusal> {
     let in_range = (2..=24).contains(&points)
-        && points.is_multiple_of(2)
+        && points % 2 == 0
         && (LEAST_DIAMETER..=9_999).contains(&diameter)
         && (100..=1_000).contains(&nozzle);
     if !in_range {

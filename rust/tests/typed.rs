@@ -1,5 +1,7 @@
 //! The typed calls on the proved library.
 
+#![cfg(target_arch = "x86_64")]
+
 use leverbonnet::{
     rect_distances, reduce_run, round_distances, run_numbers, Class, Finding, Refusal,
 };

@@ -1,12 +1,12 @@
 //! Traverse layouts: every count of points with sizes about every limit, every
-//! diameter once, and outputs of every length for the largest of each kind.
+//! diameter, and outputs of every length for the largest of each kind.
 
 use crate::call::Call;
+use crate::extent::Extent;
 use crate::fields::RECTANGULAR_COUNTS;
 use crate::random::Random;
 
 const SEED: u64 = 0x40_0000;
-const RANDOM_RECTANGLES: u64 = 20_000;
 const DISTANCE_LENGTH: usize = 4;
 
 /// More than the largest layout needs: 49 cells of two distances.
@@ -28,19 +28,28 @@ static SIDES: [u16; 30] = [
 /// Counts outside every range, beside all that are near one.
 const FAR_COUNTS: [u16; 3] = [64, 256, 65_535];
 
-pub fn calls() -> impl Iterator<Item = Call> {
-    round_limits()
-        .chain(every_diameter())
-        .chain(rectangular_limits())
-        .chain(random_rectangles())
+/// One in so many pairs of sizes meets a wrong count when not all do: no sizes
+/// make it right. It shares no factor with a list's length, so all get a turn.
+const ONE_PAIR_IN: usize = 23;
+
+pub fn calls(extent: &Extent) -> impl Iterator<Item = Call> {
+    round_limits(extent.every_pairing)
+        .chain(every_diameter(extent.every_pairing))
+        .chain(rectangular_limits(extent.every_pairing))
+        .chain(random_rectangles(extent.random_rectangles))
         .chain(output_lengths())
 }
 
-fn round_limits() -> impl Iterator<Item = Call> {
-    (0..=26).chain(FAR_COUNTS).flat_map(|points| {
+fn is_round_count(points: u16) -> bool {
+    (2..=24).contains(&points) && points.is_multiple_of(2)
+}
+
+fn round_limits(every_pairing: bool) -> impl Iterator<Item = Call> {
+    (0..=26).chain(FAR_COUNTS).flat_map(move |points| {
         let needed = (usize::from(points) * DISTANCE_LENGTH).min(ROOMY);
         let lengths = [0, needed.saturating_sub(1), needed, ROOMY];
-        pairs(&DIAMETERS, &NOZZLES).flat_map(move |(diameter, nozzle)| {
+        let all = every_pairing || is_round_count(points);
+        pairs(&DIAMETERS, &NOZZLES, all).flat_map(move |(diameter, nozzle)| {
             lengths.map(|out_len| Call::RoundLayout {
                 points,
                 diameter,
@@ -51,9 +60,11 @@ fn round_limits() -> impl Iterator<Item = Call> {
     })
 }
 
-fn every_diameter() -> impl Iterator<Item = Call> {
-    (120..=9_999).flat_map(|diameter| {
+fn every_diameter(every_pairing: bool) -> impl Iterator<Item = Call> {
+    (120..=9_999).flat_map(move |diameter| {
         let counts = (2..=24).step_by(2);
+        let its_count = 2 + diameter % 12 * 2;
+        let counts = counts.filter(move |&points| every_pairing || points == its_count);
         counts.map(move |points| Call::RoundLayout {
             points,
             diameter,
@@ -63,10 +74,11 @@ fn every_diameter() -> impl Iterator<Item = Call> {
     })
 }
 
-fn rectangular_limits() -> impl Iterator<Item = Call> {
-    (0..=50).chain(FAR_COUNTS).flat_map(|points| {
+fn rectangular_limits(every_pairing: bool) -> impl Iterator<Item = Call> {
+    (0..=50).chain(FAR_COUNTS).flat_map(move |points| {
         let needed = (2 * usize::from(points) * DISTANCE_LENGTH).min(ROOMY);
-        pairs(&SIDES, &SIDES).flat_map(move |(first, second)| {
+        let all = every_pairing || RECTANGULAR_COUNTS.contains(&points);
+        pairs(&SIDES, &SIDES, all).flat_map(move |(first, second)| {
             [needed.saturating_sub(1), ROOMY].map(|out_len| Call::RectLayout {
                 points,
                 first,
@@ -77,14 +89,19 @@ fn rectangular_limits() -> impl Iterator<Item = Call> {
     })
 }
 
-fn pairs(firsts: &'static [u16], seconds: &'static [u16]) -> impl Iterator<Item = (u16, u16)> {
+fn pairs(
+    firsts: &'static [u16],
+    seconds: &'static [u16],
+    all: bool,
+) -> impl Iterator<Item = (u16, u16)> {
     firsts
         .iter()
         .flat_map(|&first| seconds.iter().map(move |&second| (first, second)))
+        .step_by(if all { 1 } else { ONE_PAIR_IN })
 }
 
-fn random_rectangles() -> impl Iterator<Item = Call> {
-    (0..RANDOM_RECTANGLES).map(|k| {
+fn random_rectangles(count: u64) -> impl Iterator<Item = Call> {
+    (0..count).map(|k| {
         let mut random = Random::new(SEED + k);
         Call::RectLayout {
             points: random.pick(&RECTANGULAR_COUNTS),

@@ -8,9 +8,8 @@ use crate::random::Random;
 
 const LENGTH: usize = 17_161;
 const SEED: u64 = 0x10_0000;
-const RANDOM_JOBS: u64 = 12;
 
-pub fn cases() -> impl Iterator<Item = Case> {
+pub fn cases(random_jobs: u64) -> impl Iterator<Item = Case> {
     let sample = Case::of_job("the longest job".into(), samples::longest(), Expected::Read);
     let changed = |name: &str, change: Change, number: u32| {
         let expected = Expected::Refused(number);
@@ -18,7 +17,7 @@ pub fn cases() -> impl Iterator<Item = Case> {
     };
     let cut = Change::Cut { length: LENGTH - 1 };
     let one_more = Change::Append(vec![0]);
-    let random = (0..RANDOM_JOBS).map(|k| {
+    let random = (0..random_jobs).map(|k| {
         let job = invent::longest_job(&mut Random::new(SEED + k));
         assert_eq!(job.bytes().len(), LENGTH, "every count is at its greatest");
         Case::of_job(format!("longest random job {k}"), job, Expected::Read)

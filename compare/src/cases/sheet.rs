@@ -5,24 +5,22 @@ use independent::samples;
 
 use super::{damaged, longest, random, worked};
 use crate::case::{Case, Change, Expected};
-
-const RANDOM_JOBS: u64 = 600;
-const DAMAGED_JOBS: u64 = 900;
+use crate::extent::Sheets;
 
 /// Longer than a pipe holds, and far longer than a job.
 const LARGE: usize = 100_000;
 
-pub fn cases() -> impl Iterator<Item = Case> {
+pub fn cases(extent: &Sheets) -> impl Iterator<Item = Case> {
     let several = samples::several_runs();
     let several = Case::of_job("the job of several runs".into(), several, Expected::Read);
     [worked::whole(), several]
         .into_iter()
         .chain(large())
-        .chain(worked::truncations())
-        .chain(worked::telling_changes())
-        .chain(longest::cases())
-        .chain(random::cases(RANDOM_JOBS))
-        .chain(damaged::cases(DAMAGED_JOBS))
+        .chain(worked::truncations().step_by(extent.one_truncation_in))
+        .chain(worked::telling_changes().step_by(extent.one_change_in))
+        .chain(longest::cases(extent.longest_jobs))
+        .chain(random::cases(extent.random_jobs))
+        .chain(damaged::cases(extent.damaged_jobs))
 }
 
 fn large() -> [Case; 3] {

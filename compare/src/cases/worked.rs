@@ -19,9 +19,14 @@ pub fn truncations() -> impl Iterator<Item = Case> {
     })
 }
 
-/// Every byte given every other value.
-pub fn every_change() -> impl Iterator<Item = Case> {
-    changes_to(|byte| (0..=255).filter(|&value| value != byte).collect())
+/// Every byte given every other value, or telling ones.
+pub fn changes(every_value: bool) -> Box<dyn Iterator<Item = Case>> {
+    match every_value {
+        true => Box::new(changes_to(|byte| {
+            (0..=255).filter(|&value| value != byte).collect()
+        })),
+        false => Box::new(telling_changes()),
+    }
 }
 
 /// Every byte given a few other values: where limits and signs are crossed.
