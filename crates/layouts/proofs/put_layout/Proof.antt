@@ -1,37 +1,41 @@
+-- Too short is refused before anything is written; otherwise the counted distances are written and four bytes answered for each.
 use borrow.Author.Needs.{needs}
+use mathlib.Core.Path.{_≡_}
+use native.Mathlib.Omega.{arith}
+use lib.ListN.{length, take}
+use lib.Seq.{length-take-le}
+use Rattle.layouts.proofs.Answers.{refused-short, laid-out}
 use Rattle.layouts.proofs.put_layout.Statement.{statement}
 use Rattle.layouts.proofs.put_layout.Tie as tie
-use Rattle.layouts.proofs.put_layout.Reads as reads
-use Rattle.layouts.proofs.put_layout.Lts as lts
-use Rattle.layouts.proofs.put_distances.Reads as put-distances-reads
 
--- src/lib.rt:44:20
+-- the array has as many distances as are counted
+counted : (c : tie.Start) → length (take (c .args .layout .count) (c .args .layout .distances)) ≡ c .args .layout .count
+counted c =
+    let long : length (c .args .layout .distances) ≡ 98 = search needs in
+    length-take-le _ _ (omega (arith, c .pre))
+
 mul-if1 : tie.Need-mul-if1
 mul-if1 c = search needs
 
--- src/lib.rt:45:9
 returns : tie.Need-returns
-returns c = ?
+returns c = refused-short _ _ (counted (c .before .before .before)) (c .if1 .taken)
 
--- src/lib.rt:47:5
 put-distances-requires : tie.Need-put-distances-requires
 put-distances-requires c κs = search needs
 
--- src/lib.rt:48:19
 mul-t5 : tie.Need-mul-t5
 mul-t5 c = search needs
 
--- src/lib.rt:48:18
 cast-t11 : tie.Need-cast-t11
 cast-t11 c = search needs
 
--- src/lib.rt:38:1
 same-length : tie.Need-same-length
 same-length c = search needs
 
--- src/lib.rt:38:1
 returns-2 : tie.Need-returns-2
-returns-2 c = ?
+returns-2 c =
+    let tested = c .before .before .before .before in
+    laid-out _ _ (counted (tested .before .before .before)) (tested .if1 .left) (c .before .before .put-distances .ensures)
 
 pub put-layout-spec : {M : Type 1} → statement M
 put-layout-spec =

@@ -1,43 +1,42 @@
+-- Outside the ranges nothing is written; inside them the layout's array holds the distances, and put_layout does the rest.
 use borrow.Author.Needs.{needs}
+use borrow.Author.Tests.{not-true, not-false}
+use mathlib.Core.Path.{_≡_, sym, _∙_}
+use lib.ListN.{length}
+use Rattle.layouts.specs.Outcomes.{rectangleOutcome}
+use Rattle.layouts.proofs.Answers.{refused-outside, inside, held-few, held-front}
 use Rattle.layouts.proofs.rectangle_layout.Statement.{statement}
 use Rattle.layouts.proofs.rectangle_layout.Tie as tie
-use Rattle.layouts.proofs.rectangle_layout.Reads as reads
-use Rattle.layouts.proofs.rectangle_layout.Lts as lts
-use Rattle.layouts.proofs.put_layout.Reads as put-layout-reads
-use Rattle.traverse.proofs.rectangle.Reads as rectangle-reads
-use Rattle.traverse.proofs.rectangle_fits.Reads as rectangle-fits-reads
 
--- src/lib.rt:66:9
 rectangle-fits-requires : tie.Need-rectangle-fits-requires
 rectangle-fits-requires c κs = search needs
 
--- src/lib.rt:67:9
 returns : tie.Need-returns
-returns c = ?
+unfolding rectangleOutcome
+returns c = refused-outside _ _ _ (sym (c .before .rectangle-fits .ensures) ∙ not-true _ (c .if1 .taken))
 
--- src/lib.rt:69:16
 rectangle-requires : tie.Need-rectangle-requires
-rectangle-requires c κs = ?
+rectangle-requires c κs = sym (c .before .rectangle-fits .ensures) ∙ not-false _ (c .if1 .left)
 
--- src/lib.rt:69:5
 put-layout-requires : tie.Need-put-layout-requires
-put-layout-requires c κs = ?
+put-layout-requires c κs =
+    let laid = c .before .rectangle in
+    let long : length (laid .result .distances) ≡ 98 = search needs in
+    held-few (laid .ensures) long
 
--- src/lib.rt:63:1
 same-length : tie.Need-same-length
 same-length c = search needs
 
--- src/lib.rt:63:1
 returns-2 : tie.Need-returns-2
-returns-2 c = ?
+unfolding rectangleOutcome
+returns-2 c =
+    let past = c .before .before .before .before in
+    let laid = past .rectangle in
+    let long : length (laid .result .distances) ≡ 98 = search needs in
+    let fits = sym (past .before .before .rectangle-fits .ensures) ∙ not-false _ (past .before .if1 .left) in
+    inside _ _ fits (rw (held-front (laid .ensures) long) at (c .before .before .put-layout .ensures))
 
 pub rectangle-layout-spec : {M : Type 1} → statement M
 rectangle-layout-spec =
     tie.close
-    (tie.spec
-    rectangle-fits-requires
-    returns
-    rectangle-requires
-    put-layout-requires
-    same-length
-    returns-2)
+    (tie.spec rectangle-fits-requires returns rectangle-requires put-layout-requires same-length returns-2)
