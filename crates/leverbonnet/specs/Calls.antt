@@ -17,6 +17,7 @@ use Rattle.output.specs.declared.Answer.{Answer}
 use Rattle.output.specs.declared.Answer.the-variants.{Done, Refused}
 use Rattle.output.specs.Answers.{packed}
 use Rattle.output.specs.Splice.{spliced}
+use Rattle.layouts.specs.Outcomes.{Outcome as LayoutOutcome, answerOf as layoutAnswer, outOf}
 use Rattle.leverbonnet.specs.Bytes.{sheetBytes, findingsBytes}
 
 -- What comes of a call to reduce: a refusal, or a reduced run
@@ -94,3 +95,8 @@ numberOf Clear s index = cond (leb (runCountOf s) index) (Refused 10 0) (Done (r
 
 unfoldable pub numberAnswer : List ℕ → ℕ → Answer
 numberAnswer s index = numberOf (jobTrouble s) s index
+
+-- leverbonnet_round_layout and leverbonnet_rect_layout: the answer, and every byte of the output
+pub record LaysOut (o : LayoutOutcome) (old new : List ℕ) (r : ℕ) : Type 0 where
+  pub answer : r ≡ packed (layoutAnswer o)
+  pub out : new ≡ outOf o old

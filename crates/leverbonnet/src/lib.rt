@@ -1,12 +1,14 @@
 // The public calls. Each takes any bytes and any numbers, and its contract says what comes back and what every lent byte then is.
-// Relies on the reader, on a run's reduction and on the writes of `output`.
+// Relies on the reader, on a run's reduction, on the layouts and on the writes of `output`.
 
 mod calls;
 mod writing;
 
 ghost use mathlib.Core.Path.{_≡_};
 ghost use Rattle.output.specs.Answers.{packed};
-ghost use Rattle.leverbonnet.specs.Calls.{Reduces, countAnswer, numberAnswer};
+ghost use lib.ListN.{length};
+ghost use Rattle.layouts.specs.Outcomes.{roundOutcome, rectangleOutcome};
+ghost use Rattle.leverbonnet.specs.Calls.{Reduces, countAnswer, numberAnswer, LaysOut};
 
 // Works the run of that number: 180 bytes of lines, 4 bytes a finding.
 #[no_mangle]
@@ -35,4 +37,30 @@ pub extern "C" fn leverbonnet_run_number(job: &[u8], index: u16) -> u64
     ensures { λ r. ⌜ r ≡ packed (numberAnswer (now (job .entry)) index) ⌝ }
 {
     calls::run_number(job, index).packed()
+}
+
+// Lays out a round stack: points on the diameter, diameter in 0.1 in, nozzle in 0.001 in; 4 bytes a distance.
+#[no_mangle]
+pub extern "C" fn leverbonnet_round_layout(
+    points: u16,
+    diameter: u16,
+    nozzle: u16,
+    out: &mut [u8],
+) -> u64
+    ensures { λ r. ⌜ LaysOut (roundOutcome points diameter nozzle (length (now (out .entry)))) (now (out .entry)) (now (out .exit)) r ⌝ }
+{
+    layouts::round_layout(points, diameter, nozzle, out).packed()
+}
+
+// Lays out a rectangular stack: points of the grid, sides in 0.1 in; 4 bytes a distance, two distances a point.
+#[no_mangle]
+pub extern "C" fn leverbonnet_rect_layout(
+    points: u16,
+    first: u16,
+    second: u16,
+    out: &mut [u8],
+) -> u64
+    ensures { λ r. ⌜ LaysOut (rectangleOutcome points first second (length (now (out .entry)))) (now (out .entry)) (now (out .exit)) r ⌝ }
+{
+    layouts::rectangle_layout(points, first, second, out).packed()
 }

@@ -1,0 +1,49 @@
+-- What each way through a call answers and leaves, and the list that a layout's array holds.
+use Prim.Native.Nat.{ℕ, _-_, _*_, _≤_, _<_}
+use mathlib.Core.Path.{_≡_, refl, sym, _∙_, ap}
+use mathlib.Core.Bool.{Bool, true, false}
+use mathlib.Core.List.{List}
+use native.Mathlib.Omega.{arith}
+use borrow.Author.Tests.{le-leb, lt-leb}
+use lib.ListN.{length, take, replicate, length-append}
+use lib.Seq.{take-at}
+use Rattle.output.specs.declared.Answer.{Answer}
+use Rattle.output.specs.declared.Answer.the-variants.{Done, Refused}
+use Rattle.output.specs.Splice.{spliced}
+use Rattle.traverse.specs.declared.Layout.{Layout}
+use Rattle.traverse.specs.Layout.{padded, Holds}
+use Rattle.layouts.specs.Outcomes.{lentOutcome, outcome, distanceBytes, answerOf, outOf, Answered}
+
+-- n distances and an output that is too short for them
+pub refused-short : (ds old : List ℕ) {n : ℕ} → length ds ≡ n → length old < 4 * n → Answered (lentOutcome ds (length old)) old old (Refused 9 0)
+unfolding lentOutcome answerOf outOf
+refused-short ds old {n} e short =
+    rw (e, lt-leb (4 * n) (length old) short) (record { answer = refl; out = refl })
+
+-- n distances written
+pub laid-out : (ds old : List ℕ) {new : List ℕ} {n : ℕ} → length ds ≡ n → 4 * n ≤ length old → new ≡ spliced old 0 (distanceBytes ds) → Answered (lentOutcome ds (length old)) old new (Done (4 * n))
+unfolding lentOutcome answerOf outOf
+laid-out ds old {new} {n} e room written =
+    rw (e, le-leb (4 * n) (length old) room) (record { answer = ap (λ m. Done (4 * m)) (sym e); out = written })
+
+-- the layout is outside its ranges, and inside them
+pub refused-outside : {fits : Bool} (ds old : List ℕ) (room : ℕ) → fits ≡ false → Answered (outcome fits ds room) old old (Refused 11 0)
+unfolding outcome answerOf outOf
+refused-outside ds old room e = rw e (record { answer = refl; out = refl })
+
+pub inside : {fits : Bool} (ds : List ℕ) (room : ℕ) {old new : List ℕ} {r : Answer} → fits ≡ true → Answered (lentOutcome ds room) old new r → Answered (outcome fits ds room) old new r
+unfolding outcome
+inside ds room e a = rw e a
+
+-- an array of 98 that holds a list's distances has no more of them than it holds, and they are its front
+module _ {ds : List ℕ} {l : Layout} (h : Holds ds l) (long : length (l .distances) ≡ 98) where
+  pub held-few : l .count ≤ 98
+  unfolding padded
+  held-few =
+      let all = ap length (sym (h .distances)) ∙ long in
+      let size : length ds ≤ 98 = omega (arith, length-append ds (replicate (98 - length ds) 0), all) in
+      omega (arith, h .count)
+
+  pub held-front : take (l .count) (l .distances) ≡ ds
+  unfolding padded
+  held-front = rw (h .distances) (take-at ds (replicate (98 - length ds) 0) (l .count) (sym (h .count)))

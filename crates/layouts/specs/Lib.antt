@@ -1,0 +1,2 @@
+-- What the calls for traverse layouts answer and write.
+pub mod Outcomes

@@ -1,0 +1,15 @@
+// Prints the job on standard input: its runs in file order, or its refusal.
+// Only the first bytes of a file decide: what stands past byte 17,162 changes no answer.
+
+use libc::STDIN_FILENO;
+use libc::STDOUT_FILENO;
+
+fn main() {
+    let mut file = io::large_buffer();
+    let length = io::read_full(STDIN_FILENO, &mut file);
+    let mut out = [0u8; text::jobs::ROOM];
+    let end = text::jobs::put_job(&file[..length], &mut out);
+    if end <= text::jobs::ROOM {
+        io::write_all(STDOUT_FILENO, &out[..end]);
+    }
+}
