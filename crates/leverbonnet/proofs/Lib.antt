@@ -1,3 +1,6 @@
 -- The laws that the calls' proofs share, and the three demands.
 pub mod Filling
 pub mod Outcomes
+pub mod Demand1
+pub mod Demand2
+pub mod Demand3
