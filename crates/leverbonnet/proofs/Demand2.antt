@@ -32,9 +32,9 @@ split entries (suc n) i inside = go (eq-or-lt-of-le (le-of-suc-le-suc inside)) (
         record { rest = []; is = rw (← e) (ap (λ b. entriesBytes entries i ++ b) (sym (append-nil (entryBytes (getD entries i noEntry))))) }
     go (inr h) before =
         let p = before h in
-        record
-        { rest = p .rest ++ entryBytes (getD entries n noEntry)
-        ; is = ap (λ b. b ++ entryBytes (getD entries n noEntry)) (p .is) ∙ simp append-assoc
+        record {
+          rest = p .rest ++ entryBytes (getD entries n noEntry);
+          is = ap (λ b. b ++ entryBytes (getD entries n noEntry)) (p .is) ∙ simp append-assoc;
         }
 
 entries-length : (entries : List Entry) (n : ℕ) → length (entriesBytes entries n) ≡ 9 * n

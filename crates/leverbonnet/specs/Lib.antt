@@ -2,3 +2,4 @@
 pub mod Bytes
 pub mod Calls
 pub mod Demands
+pub mod Starred
