@@ -1,5 +1,5 @@
 -- How long the lines of points are, and points written line after line.
-use Prim.Native.Nat.{ℕ, _+_, _*_, _≤_, _<_}
+use Prim.Native.Nat.{ℕ, zero, suc, _+_, _*_, _≤_, _<_}
 use mathlib.Core.Path.{_≡_, subst}
 use mathlib.Core.Bool.{Bool, true, false, cond}
 use mathlib.Core.List.{List, [], _∷_, _++_}
@@ -38,6 +38,13 @@ point-short number s place sides =
     let two = length-append (decimal number ++ sidesText s place sides) newline in
     omega (arith, one, two, decimal-short number, sides-short s place sides)
 
+pub points-short : (s : List ℕ) (sides n : ℕ) → length (pointsText s sides n) ≤ n * 63
+unfolding pointsText
+points-short s sides zero = omega arith
+points-short s sides (suc n) =
+    let size = length-append (pointsText s sides n) (pointText (n + 1) s (4 * (sides * n)) sides) in
+    omega (arith, size, points-short s sides n, point-short (n + 1) s (4 * (sides * n)) sides)
+
 -- the parts of a distance, of a pair and of a point, one after another
 pub wrote-distance : {old : List ℕ} {at : ℕ} (d : ℕ) {a b : List ℕ} {p q : ℕ} → at + 21 ≤ length old →
     Wrote old at space a p →
@@ -46,21 +53,24 @@ pub wrote-distance : {old : List ℕ} {at : ℕ} (d : ℕ) {a b : List ℕ} {p q
 unfolding distanceText
 wrote-distance d room v w = wrote-more v w (omega (arith, length-append space (decimal d), decimal-short d))
 
-pub wrote-one : {old : List ℕ} {at : ℕ} (s : List ℕ) (place sides : ℕ) {a : List ℕ} {p : ℕ} → sides ≡ 1 →
-    Wrote old at (distanceText (u32At s place)) a p →
+pub wrote-one : {old : List ℕ} {at : ℕ} (s : List ℕ) (place sides : ℕ) {d : ℕ} {a : List ℕ} {p : ℕ} → sides ≡ 1 →
+    d ≡ u32At s place →
+    Wrote old at (distanceText d) a p →
     Wrote old at (sidesText s place sides) a p
 unfolding sidesText
-wrote-one s place sides e v = rw (eq-eqb sides 1 e) v
+wrote-one s place sides one e v = rw (eq-eqb sides 1 one, ← e) v
 
-pub wrote-two : {old : List ℕ} {at : ℕ} (s : List ℕ) (place sides : ℕ) {a b : List ℕ} {p q : ℕ} → at + 42 ≤ length old → (sides ≡ 1 → ⊥) →
-    Wrote old at (distanceText (u32At s place)) a p →
-    Wrote a p (distanceText (u32At s (place + 4))) b q →
+pub wrote-two : {old : List ℕ} {at : ℕ} (s : List ℕ) (place sides : ℕ) {d e : ℕ} {a b : List ℕ} {p q : ℕ} → at + 42 ≤ length old → (sides ≡ 1 → ⊥) →
+    d ≡ u32At s place →
+    Wrote old at (distanceText d) a p →
+    e ≡ u32At s (place + 4) →
+    Wrote a p (distanceText e) b q →
     Wrote old at (sidesText s place sides) b q
 unfolding sidesText
-wrote-two s place sides room e v w =
-    let size = length-append (distanceText (u32At s place)) (distanceText (u32At s (place + 4))) in
-    rw (ne-eqb sides 1 e)
-    (wrote-more v w (omega (arith, size, distance-short (u32At s place), distance-short (u32At s (place + 4)))))
+wrote-two s place sides {d} {e} room two first v second w =
+    let size = length-append (distanceText d) (distanceText e) in
+    rw (ne-eqb sides 1 two, ← first, ← second)
+    (wrote-more v w (omega (arith, size, distance-short d, distance-short e)))
 
 pub wrote-point : {old : List ℕ} {at : ℕ} (number : ℕ) (s : List ℕ) (place sides : ℕ) {a b c : List ℕ} {p q r : ℕ} → at + 63 ≤ length old →
     Wrote old at (decimal number) a p →
@@ -80,13 +90,12 @@ pub record Pointed (old s : List ℕ) (sides count : ℕ) (out : List ℕ) (next
   pub past : i ≤ count
   pub few : count ≤ 98
   pub room : 6174 ≤ length old
-  pub short : length (pointsText s sides i) ≤ i * 63
   pub is : Wrote old 0 (pointsText s sides i) out next
 
 pub pointed-none : (old s : List ℕ) (sides count : ℕ) → count ≤ 98 → 6174 ≤ length old → Pointed old s sides count old 0 0
 unfolding pointsText
 pointed-none old s sides count few room =
-    record { past = omega arith; few = few; room = room; short = omega arith; is = wrote-none old 0 }
+    record { past = omega arith; few = few; room = room; is = wrote-none old 0 }
 
 pub pointed-more : {old s : List ℕ} {sides count : ℕ} {out out′ : List ℕ} {next next′ i : ℕ} → Pointed old s sides count out next i → i < count → Wrote out next (pointText (i + 1) s (4 * (sides * i)) sides) out′ next′ → Pointed old s sides count out′ next′ (i + 1)
 unfolding pointsText
@@ -97,8 +106,7 @@ pointed-more {s = s} {sides = sides} {i = i} l inside w =
       past = omega arith;
       few = l .few;
       room = l .room;
-      short = rw (add-one i) (omega (arith, size, line, l .short));
-      is = rw (add-one i) (wrote-more (l .is) w (omega (arith, size, line, l .room, l .short, l .few)));
+      is = rw (add-one i) (wrote-more (l .is) w (omega (arith, size, line, l .room, l .few, points-short s sides i)));
     }
 
 pub pointed-all : {old s : List ℕ} {sides count : ℕ} {out : List ℕ} {next i : ℕ} → Pointed old s sides count out next i → count ≤ i → Wrote old 0 (pointsText s sides count) out next

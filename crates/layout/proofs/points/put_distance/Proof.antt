@@ -1,30 +1,29 @@
+-- A space, then the number.
 use borrow.Author.Needs.{needs}
+use native.Mathlib.Omega.{arith}
+use Rattle.text.proofs.Decimals.{decimal-fits}
+use Rattle.layout.proofs.PointTexts.{wrote-distance}
 use Rattle.layout.proofs.points.put_distance.Statement.{statement}
 use Rattle.layout.proofs.points.put_distance.Tie as tie
-use Rattle.layout.proofs.points.put_distance.Reads as reads
-use Rattle.layout.proofs.points.put_distance.Lts as lts
-use Rattle.text.proofs.numbers.put_decimal.Reads as put-decimal-reads
-use Rattle.text.proofs.numbers.put_word.Reads as put-word-reads
 
--- src/points.rt:16:31
 slice-aggregate-put-word : tie.Need-slice-aggregate-put-word
 slice-aggregate-put-word c = search needs
 
--- src/points.rt:16:9
 put-word-requires : tie.Need-put-word-requires
 put-word-requires c κs = search needs
 
--- src/points.rt:17:5
 put-decimal-requires : tie.Need-put-decimal-requires
-put-decimal-requires c κs = ?
+put-decimal-requires c κs =
+    let word = c .before .before .before in
+    decimal-fits _ _ _ (omega (arith, word .put-word .ensures, word .before .before .before .before .pre))
 
--- src/points.rt:12:1
 same-length : tie.Need-same-length
 same-length c = search needs
 
--- src/points.rt:12:1
 returns : tie.Need-returns
-returns c = ?
+returns c =
+    let word = c .before .before .before .before .before .before in
+    wrote-distance _ (word .before .before .before .before .pre) (word .put-word .ensures) (c .before .before .put-decimal .ensures)
 
 pub put-distance-spec : {M : Type 1} → statement M
 put-distance-spec =

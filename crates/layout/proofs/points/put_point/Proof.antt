@@ -1,35 +1,40 @@
+-- The number, the distances and the end of the line.
 use borrow.Author.Needs.{needs}
+use native.Mathlib.Omega.{arith}
+use Rattle.text.proofs.Decimals.{decimal-short, decimal-fits}
+use Rattle.layout.proofs.PointTexts.{sides-short, wrote-point}
 use Rattle.layout.proofs.points.put_point.Statement.{statement}
 use Rattle.layout.proofs.points.put_point.Tie as tie
-use Rattle.layout.proofs.points.put_point.Reads as reads
-use Rattle.layout.proofs.points.put_point.Lts as lts
-use Rattle.layout.proofs.points.put_sides.Reads as put-sides-reads
-use Rattle.text.proofs.numbers.put_decimal.Reads as put-decimal-reads
-use Rattle.text.proofs.numbers.put_word.Reads as put-word-reads
 
--- src/points.rt:44:9
 put-decimal-requires : tie.Need-put-decimal-requires
-put-decimal-requires c κs = ?
+put-decimal-requires c κs = decimal-fits _ _ _ (omega (arith, c .before .before .before .pre .1))
 
--- src/points.rt:45:9
 put-sides-requires : tie.Need-put-sides-requires
-put-sides-requires c κs = ?
+put-sides-requires c κs =
+    let number = c .before .before .before in
+    let start = number .before .before .before .before in
+    (start .pre .0, omega (arith, start .pre .1, decimal-short (start .args .number), number .put-decimal .ensures))
 
--- src/points.rt:46:22
 slice-aggregate-put-word : tie.Need-slice-aggregate-put-word
 slice-aggregate-put-word c = search needs
 
--- src/points.rt:46:5
 put-word-requires : tie.Need-put-word-requires
-put-word-requires c κs = ?
+put-word-requires c κs =
+    let sides = c .before .before .before .before in
+    let number = sides .before .before .before .before in
+    let start = number .before .before .before .before in
+    omega
+    (arith, start .pre .1, decimal-short (start .args .number), sides-short (start .args .distances .now) (start .args .place) (start .args .sides), number .put-decimal .ensures, sides .put-sides .ensures)
 
--- src/points.rt:33:1
 same-length : tie.Need-same-length
 same-length c = search needs
 
--- src/points.rt:33:1
 returns : tie.Need-returns
-returns c = ?
+returns c =
+    let sides = c .before .before .before .before .before .before .before in
+    let number = sides .before .before .before .before in
+    let start = number .before .before .before .before in
+    wrote-point _ _ _ _ (start .pre .1) (number .put-decimal .ensures) (sides .put-sides .ensures) (c .before .before .put-word .ensures)
 
 pub put-point-spec : {M : Type 1} → statement M
 put-point-spec =

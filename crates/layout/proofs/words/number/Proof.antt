@@ -1,69 +1,69 @@
+-- The loop reads one digit a turn: what was read and what is left decide the word.
+use Prim.Native.Nat.{_-_}
+use native.Mathlib.Omega.{arith}
+use lib.ListN.{length}
+use borrow.Author.Tests.{eq-eqb}
+use Rattle.layout.specs.Words.{numberOf}
+use Rattle.layout.proofs.Numerals.{Begun, begun-none, begun-more, begun-all, below-digits, above-digits, too-large}
 use Rattle.layout.proofs.words.number.Statement.{statement}
 use Rattle.layout.proofs.words.number.Tie as tie
-use Rattle.layout.proofs.words.number.Reads as reads
-use Rattle.layout.proofs.words.number.Lts as lts
 
 abbrev Inv-loop : tie.InvT-loop
-Inv-loop word value₀ i₀ value i = ?
+Inv-loop word value₀ i₀ value i = Begun word value i
 
 abbrev μ-loop : tie.MeasureT-loop
-μ-loop word value₀ i₀ value i = ?
+μ-loop word value₀ i₀ value i = length word - i
 
--- src/words.rt:17:9
 returns : tie.Need-returns Inv-loop μ-loop
-returns c = ?
+unfolding numberOf
+returns c = rw (eq-eqb _ _ (c .if1 .taken))
 
--- src/words.rt:21:5
 loop-holds : tie.Need-loop-holds Inv-loop μ-loop
-loop-holds c = ?
+loop-holds c = begun-none _ (c .if1 .left)
 
--- src/words.rt:22:21
 shared-slice-read-digit : tie.Need-shared-slice-read-digit Inv-loop μ-loop
-shared-slice-read-digit c = ?
+shared-slice-read-digit c = omega arith
 
--- src/words.rt:24:13
 returns-2 : tie.Need-returns-2 Inv-loop μ-loop
-returns-2 c = ?
+returns-2 c =
+    let turn = c .before .before in
+    below-digits (turn .before .loop .inv) (turn .loop-test .taken) (c .if2 .taken)
 
--- src/words.rt:27:13
 returns-3 : tie.Need-returns-3 Inv-loop μ-loop
-returns-3 c = ?
+returns-3 c =
+    let turn = c .before .before .before in
+    above-digits (turn .before .loop .inv) (turn .loop-test .taken) (c .before .if2 .left) (c .if3 .taken)
 
--- src/words.rt:29:17
 mul-value : tie.Need-mul-value Inv-loop μ-loop
-mul-value c = ?
+mul-value c = omega arith
 
--- src/words.rt:29:30
 cast-value : tie.Need-cast-value Inv-loop μ-loop
-cast-value c = ?
+cast-value c = omega arith
 
--- src/words.rt:29:17
 add-value : tie.Need-add-value Inv-loop μ-loop
-add-value c = ?
+add-value c = omega arith
 
--- src/words.rt:31:13
 returns-4 : tie.Need-returns-4 Inv-loop μ-loop
-returns-4 c = ?
+returns-4 c =
+    let turn = c .before .before .before .before in
+    too-large (turn .before .loop .inv) (turn .loop-test .taken) (c .before .before .if2 .left) (c .before .if3 .left) (c .if4 .taken)
 
--- src/words.rt:33:9
 add-i : tie.Need-add-i Inv-loop μ-loop
-add-i c = ?
+add-i c = omega arith
 
--- src/words.rt:21:5
 loop-less : tie.Need-loop-less Inv-loop μ-loop
-loop-less c = ?
+loop-less c = omega arith
 
--- src/words.rt:21:5
 loop-again : tie.Need-loop-again Inv-loop μ-loop
-loop-again c = ?
+loop-again c =
+    let turn = c .before .before .before .before in
+    begun-more (turn .before .loop .inv) (turn .loop-test .taken) (c .before .before .if2 .left) (c .before .if3 .left) (c .if4 .left)
 
--- src/words.rt:35:17
 cast-t13 : tie.Need-cast-t13 Inv-loop μ-loop
-cast-t13 c = ?
+cast-t13 c = omega arith
 
--- src/words.rt:13:1
 returns-5 : tie.Need-returns-5 Inv-loop μ-loop
-returns-5 c = ?
+returns-5 c = begun-all (c .before .loop .inv) (c .loop-test .left)
 
 pub number-spec : {M : Type 1} → statement M
 number-spec =
