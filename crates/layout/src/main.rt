@@ -16,6 +16,14 @@ mod words;
 // The program's own name, the shape and the three numbers.
 const WORDS: usize = 5;
 
+// Bytes of a point in the output of a call: one distance in a round stack, two in a rectangular one.
+const ROUND_POINT: usize = 4;
+
+const RECTANGULAR_POINT: usize = 8;
+
+// The longest output of a call: 49 points of a rectangle.
+const LONGEST: usize = 392;
+
 enum Shape {
     Round,
     Rectangle,
@@ -63,19 +71,19 @@ fn print_points(distances: &[u8], sides: usize, count: usize)
 }
 
 fn print_round(points: u16, diameter: u16, nozzle: u16) {
-    let mut distances = [0u8; 392];
+    let mut distances = [0u8; LONGEST];
     let answer = round_layout(points, diameter, nozzle, &mut distances);
     match answer {
-        Answer::Done(bytes) => print_points(&distances, 1, bytes as usize / 4),
+        Answer::Done(bytes) => print_points(&distances, 1, bytes as usize / ROUND_POINT),
         Answer::Refused(number, place) => print_refusal(number, place),
     }
 }
 
 fn print_rectangle(points: u16, first: u16, second: u16) {
-    let mut distances = [0u8; 392];
+    let mut distances = [0u8; LONGEST];
     let answer = rectangle_layout(points, first, second, &mut distances);
     match answer {
-        Answer::Done(bytes) => print_points(&distances, 2, bytes as usize / 8),
+        Answer::Done(bytes) => print_points(&distances, 2, bytes as usize / RECTANGULAR_POINT),
         Answer::Refused(number, place) => print_refusal(number, place),
     }
 }
@@ -109,6 +117,6 @@ fn main() {
     if os::arg_count() == WORDS {
         answer_words();
     } else {
-        complain(b"a shape and three numbers are needed");
+        complain(b"exactly a shape and three numbers are needed");
     }
 }
