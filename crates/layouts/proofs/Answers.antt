@@ -4,7 +4,8 @@ use mathlib.Core.Path.{_≡_, refl, sym, _∙_, ap}
 use mathlib.Core.Bool.{Bool, true, false}
 use mathlib.Core.List.{List}
 use native.Mathlib.Omega.{arith}
-use borrow.Author.Tests.{le-leb, lt-leb}
+use borrow.Author.Tests.{le-leb, lt-leb, leb-true}
+use lib.Dec.{leb}
 use lib.ListN.{length, take, replicate, length-append}
 use lib.Seq.{take-at}
 use Rattle.output.specs.declared.Answer.{Answer}
@@ -12,7 +13,7 @@ use Rattle.output.specs.declared.Answer.the-variants.{Done, Refused}
 use Rattle.output.specs.Splice.{spliced}
 use Rattle.traverse.specs.declared.Layout.{Layout}
 use Rattle.traverse.specs.Layout.{padded, Holds}
-use Rattle.layouts.specs.Outcomes.{lentOutcome, outcome, distanceBytes, answerOf, outOf, Answered}
+use Rattle.layouts.specs.Outcomes.{ifRoom, lentOutcome, outcome, distanceBytes, answerOf, outOf, Answered}
 
 -- n distances and an output that is too short for them
 pub refused-short : (ds old : List ℕ) {n : ℕ} → length ds ≡ n → length old < 4 * n → Answered (lentOutcome ds (length old)) old old (Refused 9 0)
@@ -34,6 +35,22 @@ refused-outside ds old room e = rw e (record { answer = refl; out = refl })
 pub inside : {fits : Bool} (ds : List ℕ) (room : ℕ) {old new : List ℕ} {r : Answer} → fits ≡ true → Answered (lentOutcome ds room) old new r → Answered (outcome fits ds room) old new r
 unfolding outcome
 inside ds room e a = rw e a
+
+-- A call that is done wrote no more than the output holds
+room-within : (enough : Bool) (ds : List ℕ) (room : ℕ) {r : Answer} {bytes : ℕ} → leb (4 * length ds) room ≡ enough → r ≡ answerOf (ifRoom enough ds) → r ≡ Done bytes → bytes ≤ room
+unfolding answerOf
+room-within true ds room {bytes = bytes} t a e =
+    let written : bytes ≡ 4 * length ds = cc in
+    omega (arith, leb-true (4 * length ds) room t)
+room-within false ds room t a e = let z : _≡_ {A = ℕ} 0 1 = cc in absurd (omega arith)
+
+pub done-within : (fits : Bool) (ds : List ℕ) (room : ℕ) {old new : List ℕ} {r : Answer} {bytes : ℕ} → Answered (outcome fits ds room) old new r → r ≡ Done bytes → bytes ≤ room
+unfolding outcome lentOutcome answerOf
+done-within true ds room a e = room-within (leb (4 * length ds) room) ds room refl (a .answer) e
+done-within false ds room a e =
+    let refusal = a .answer in
+    let z : _≡_ {A = ℕ} 0 1 = cc in
+    absurd (omega arith)
 
 -- an array of 98 that holds a list's distances has no more of them than it holds, and they are its front
 module _ {ds : List ℕ} {l : Layout} (h : Holds ds l) (long : length (l .distances) ≡ 98) where

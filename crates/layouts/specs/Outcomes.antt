@@ -17,11 +17,12 @@ pub data Outcome : Type 0 where
   refused : ℕ → ℕ → Outcome
   laid : List ℕ → Outcome
 
--- distances that a lent output of this length holds, 4 bytes each, or 9 at 0
+-- the distances if there is room for them, or 9 at 0
 abbrev pub ifRoom : Bool → List ℕ → Outcome
 ifRoom true ds = laid ds
 ifRoom false ds = refused 9 0
 
+-- a lent output needs 4 bytes for each distance
 unfoldable pub lentOutcome : List ℕ → ℕ → Outcome
 lentOutcome ds room = ifRoom (leb (4 * length ds) room) ds
 

@@ -1,0 +1,3 @@
+-- The laws of the program's words and points.
+pub mod Numerals
+pub mod PointTexts
