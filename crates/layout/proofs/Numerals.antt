@@ -1,13 +1,12 @@
 -- A word read digit by digit: what is read so far, and the rest of the word.
 use Prim.Native.Nat.{ℕ, _+_, _≤_, _<_}
-use mathlib.Core.Path.{_≡_, refl, sym, _∙_, ap}
-use mathlib.Core.List.{List, [], _∷_}
+use mathlib.Core.Path.{_≡_, sym, _∙_, ap}
+use mathlib.Core.List.{List, _∷_}
 use native.Mathlib.Numerals.{add-one}
 use native.Mathlib.Omega.{arith}
 use borrow.Author.Tests.{lt-ltb, le-ltb, ne-eqb}
 use lib.ListN.{length, drop, getD}
 use lib.Seq.{drop-cons, drop-length}
-use Rattle.layout.specs.declared.words.Numeral.{Numeral}
 use Rattle.layout.specs.declared.words.Numeral.the-variants.{Is, Bad}
 use Rattle.layout.specs.Words.{withDigit, numberFrom, numberOf}
 
