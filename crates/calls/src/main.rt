@@ -1,0 +1,113 @@
+// Answers the public calls over a pipe, one request after the other, and ends with its input.
+//
+// A request is a header of 16 bytes, then the job's bytes:
+//
+//     0       the call: 1 reduce, 2 run_count, 3 run_number, 4 round_layout, 5 rect_layout
+//     1       what every byte of both outputs is before the call
+//     2 to 7  three u16, in the order in which the call takes its numbers
+//     8, 10   the lengths of the outputs, u16, at most 4,096 each
+//     12      the job's length, u32, at most 65,536
+//
+// A length above its most counts as its most, and a job that the input cuts short is made up with zeros. The
+// reply is the call's answer as a u64, 0 where there is no such call, then both outputs as the call left them.
+
+ghost use Rattle.io.specs.Counts.{Counts};
+use leverbonnet::leverbonnet_rect_layout;
+use leverbonnet::leverbonnet_reduce;
+use leverbonnet::leverbonnet_round_layout;
+use leverbonnet::leverbonnet_run_count;
+use leverbonnet::leverbonnet_run_number;
+use libc::STDIN_FILENO;
+use libc::STDOUT_FILENO;
+
+// Two bytes of a header as a number.
+fn word(low: u8, high: u8) -> u16 {
+    low as u16 + 256 * (high as u16)
+}
+
+// The job's length in a header.
+fn job_length(header: &[u8; 16]) -> usize {
+    word(header[12], header[13]) as usize + 65536 * (word(header[14], header[15]) as usize)
+}
+
+// A length of the header, as far as the buffer goes.
+fn within(length: usize, buf: &[u8]) -> usize
+    ensures { λ r. ⌜ Counts r (now (buf .entry)) ⌝ }
+{
+    if length < buf.len() {
+        length
+    } else {
+        buf.len()
+    }
+}
+
+fn fill(output: &mut [u8], byte: u8) {
+    let mut i = 0;
+    while i < output.len() {
+        output[i] = byte;
+        i += 1;
+    }
+}
+
+// The answer of the call that a header names.
+fn answer(header: &[u8; 16], job: &[u8], first: &mut [u8], second: &mut [u8]) -> u64 {
+    let a = word(header[2], header[3]);
+    let b = word(header[4], header[5]);
+    let c = word(header[6], header[7]);
+    let call = header[0];
+    match call {
+        1 => leverbonnet_reduce(job, a, first, second),
+        2 => leverbonnet_run_count(job),
+        3 => leverbonnet_run_number(job, a),
+        4 => leverbonnet_round_layout(a, b, c, first),
+        5 => leverbonnet_rect_layout(a, b, c, first),
+        _ => 0,
+    }
+}
+
+fn write_answer(answer: u64) {
+    let mut reply = [0u8; 8];
+    output::put_number(&mut reply, 0, 8, answer);
+    io::write_all(STDOUT_FILENO, &reply);
+}
+
+// Reads the job that a header announces, makes the call and writes the reply. The three buffers have the
+// lengths that the header gives.
+fn exchange(header: &[u8; 16], job: &mut [u8], first: &mut [u8], second: &mut [u8]) {
+    io::read_full(STDIN_FILENO, job);
+    fill(first, header[1]);
+    fill(second, header[1]);
+    write_answer(answer(header, job, first, second));
+    io::write_all(STDOUT_FILENO, first);
+    io::write_all(STDOUT_FILENO, second);
+}
+
+// Answers one request, and says whether there was one.
+fn serve() -> bool {
+    let mut header = [0u8; 16];
+    if io::read_full(STDIN_FILENO, &mut header) < 16 {
+        return false;
+    }
+    let mut job = io::large_buffer();
+    let mut first = io::buffer();
+    let mut second = io::buffer();
+    let length = within(job_length(&header), &job);
+    let one = within(word(header[8], header[9]) as usize, &first);
+    let two = within(word(header[10], header[11]) as usize, &second);
+    exchange(
+        &header,
+        &mut job[..length],
+        &mut first[..one],
+        &mut second[..two],
+    );
+    true
+}
+
+// A proved loop has to end, and nothing says that the input does: the loop counts its turns down, from a
+// number that no input uses up.
+fn main() {
+    let mut turns = u64::MAX;
+    while turns > 0 && serve() {
+        turns -= 1;
+    }
+}
