@@ -18,9 +18,15 @@ use Rattle.findings.proofs.Accepting.{accepted-exactly}
 use Rattle.findings.proofs.Members.{listed-exactly}
 use Rattle.job.specs.Places.{certificateCountOf, runCountOf, certificateOf, runOf}
 use Rattle.job.specs.Troubles.{jobTrouble}
-use Rattle.job.proofs.ClearJobs.{unique}
-use Rattle.reduction.specs.Reducing.{worked, chosenIn, reducedRun}
+use Rattle.job.proofs.ClearJobs.{unique, rising}
+use Rattle.reduction.specs.declared.Which.{Which}
+use Rattle.reduction.specs.declared.Which.the-variants.{Run as RunAt, Nothing}
+use Rattle.reduction.specs.Reducing.{worked, chosenIn, reducedRun, runNamed}
+use Rattle.output.specs.Answers.{packed}
+use Rattle.leverbonnet.specs.Calls.{handed, ofRun, ofTrouble, outcome, answerOf, linesAfter, findingsAfter, Reduces}
 use Rattle.leverbonnet.specs.Demands.{SameRun}
+use Rattle.leverbonnet.proofs.Outcomes.{found-inside}
+use Rattle.leverbonnet.proofs.Demand1.{named, none-named}
 
 -- A finding is among those written for run k exactly if the run breaks that rule at that place
 pub found-exactly : (s : List ℕ) (k rule place : ℕ) → Holds (findingsFor (runOf s k) (chosenIn s k)) rule place ↔ Breaks (runOf s k) (chosenIn s k) (linesFor (runOf s k) (chosenIn s k)) rule place
@@ -50,3 +56,44 @@ unfolding reducedRun chosenIn
 same-reduced s t run same =
     let chosen = chosenFor-same-members (runOf s (same .index)) (certificateOf s) (certificateCountOf s) (certificateOf t) (certificateCountOf t) (read-unique s (same .first)) (same .certificates) in
     ap (worked (runOf s (same .index))) chosen ∙ rw (same .record′)
+
+-- a job that is read has one run of a number
+one-of-number : (s : List ℕ) → jobTrouble s ≡ Clear → (j k : ℕ) → j < runCountOf s → k < runCountOf s → runOf s j .number ≡ runOf s k .number → j ≡ k
+one-of-number s clear j k hj hk same = order (decLt j k) (decLt k j)
+  where
+    order : Dec (j < k) → Dec (k < j) → j ≡ k
+    order (yes l) d = let above = rising s clear j k l hk in absurd (omega (arith, above, same))
+    order (no f) (yes l) = let above = rising s clear k j l hj in absurd (omega (arith, above, same))
+    order (no f) (no g) = omega (arith, f, g)
+
+-- so the run of that number is the one found
+found-by-number : (s : List ℕ) (run k : ℕ) → jobTrouble s ≡ Clear → k < runCountOf s → runOf s k .number ≡ run → runNamed s run (runCountOf s) ≡ RunAt k
+found-by-number s run k clear inside number = go (runNamed s run (runCountOf s)) refl
+  where
+    go : (which : Which) → runNamed s run (runCountOf s) ≡ which → runNamed s run (runCountOf s) ≡ RunAt k
+    go Nothing e = absurd (none-named s run (runCountOf s) e k inside number)
+    go (RunAt j) e = e ∙ ap RunAt (one-of-number s clear j k (found-inside s run (runCountOf s) e) inside (named s run (runCountOf s) e ∙ sym number))
+
+-- and the outcome is that run's
+outcome-of-run : (s : List ℕ) (run k lines findings : ℕ) → jobTrouble s ≡ Clear → k < runCountOf s → runOf s k .number ≡ run → outcome s run lines findings ≡ handed (reducedRun s k) lines findings
+unfolding outcome
+outcome-of-run s run k lines findings clear inside number =
+    ap (λ t. ofTrouble t s run lines findings) clear
+    ∙ ap (λ which. ofRun s which lines findings) (found-by-number s run k clear inside number)
+
+-- Two jobs: the same outcome for outputs of the same lengths
+pub same-outcome : (s t : List ℕ) (run lines findings : ℕ) → SameRun s t run → outcome s run lines findings ≡ outcome t run lines findings
+same-outcome s t run lines findings same =
+    outcome-of-run s run (same .index) lines findings (same .first) (same .inside) (same .number)
+    ∙ ap (λ r. handed r lines findings) (same-reduced s t run same)
+    ∙ sym (outcome-of-run t run (same .other) lines findings (same .second) (same .within) (ap (λ r. r .number) (sym (same .record′)) ∙ same .number))
+
+-- Two jobs: what the call answers and writes for one, it answers and writes for the other, byte for byte
+pub same-bytes : (s t : List ℕ) (run : ℕ) → SameRun s t run → {linesIn findingsIn linesOut findingsOut : List ℕ} {r : ℕ} → Reduces s run linesIn findingsIn linesOut findingsOut r → Reduces t run linesIn findingsIn linesOut findingsOut r
+same-bytes s t run same {linesIn} {findingsIn} done =
+    let one = same-outcome s t run (length linesIn) (length findingsIn) same in
+    record {
+      answer = done .answer ∙ ap (λ o. packed (answerOf o)) one;
+      lines = done .lines ∙ ap (λ o. linesAfter o linesIn) one;
+      findings = done .findings ∙ ap (λ o. findingsAfter o findingsIn) one;
+    }
