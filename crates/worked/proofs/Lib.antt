@@ -1,0 +1,2 @@
+-- The ranges of the worked run.
+pub mod Ranges
