@@ -1,11 +1,16 @@
--- The starred values of the paper, in one list.
+-- The starred values of the paper, in one list, and beside them the answer to its printed job.
 use Prim.Native.Nat.{ℕ}
 use mathlib.Core.Path.{_≡_}
 use mathlib.Core.Bool.{true, false}
-use mathlib.Core.List.{List, [], _∷_, map}
+use mathlib.Core.List.{List, [], _∷_, _++_, map}
+use lib.ListN.{replicate}
 use Rattle.lines.specs.Starred.{Example, roots, leak, workedLines}
 use Rattle.findings.specs.Starred.{Each, StarredFactor, FactorStands, StarredIsokinetic, IsokineticStands}
 use Rattle.traverse.specs.Positions.{position, starredPositions}
+use Rattle.job.specs.Worked.{workedJob}
+use Rattle.output.specs.Bytes.{le}
+use Rattle.output.specs.Answers.{packed}
+use Rattle.leverbonnet.specs.Calls.{outcome, answerOf, linesAfter, findingsAfter}
 
 -- a starred value: a number worked out beside the paper's, a factor, a line 18, or the positions of six points
 pub data StarredValue : Type 0 where
@@ -36,3 +41,14 @@ starred =
     ∷ percent (record { line = 11001; fifteen = false; sixteen = true })
     ∷ positions starredPositions
     ∷ []
+
+-- lines that are present, as bytes
+abbrev pub presentBytes : List ℕ → List ℕ
+presentBytes [] = []
+presentBytes (v ∷ vs) = (1 ∷ le 8 v) ++ presentBytes vs
+
+-- The printed job, run 7, into buffers that just suffice: accepted with one finding, the twenty lines, and the note of rule 11 at segment 1
+pub record PrintedJob : Type 0 where
+  pub answer : packed (answerOf (outcome workedJob 7 180 4)) ≡ 65537
+  pub lines : linesAfter (outcome workedJob 7 180 4) (replicate 180 0) ≡ presentBytes (workedLines .expected)
+  pub findings : findingsAfter (outcome workedJob 7 180 4) (replicate 4 0) ≡ 11 ∷ 2 ∷ 1 ∷ 0 ∷ []

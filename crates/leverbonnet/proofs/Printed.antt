@@ -1,0 +1,37 @@
+-- The printed job is answered as the paper prints it: by computation, from its bytes to the bytes of its lines and its finding.
+use mathlib.Core.Path.{refl}
+use Rattle.arith.specs.Root.{grown, floorRoot, nearestRoot}
+use Rattle.arith.specs.Rounding.{roundDiv}
+use Rattle.readings.specs.Ranges.{within, signedWithin}
+use Rattle.records.specs.Records.{sameIdentity, sumTo}
+use Rattle.lines.specs.Metering.{time, meteredVolume, allowance, leakLoss, leakLosses, correctedVolume, meanOrifice, meterPressure, meterTemperature, dryVolume, waterVapor, moisture}
+use Rattle.lines.specs.Promise.{unlessZero, addScaled}
+use Rattle.lines.specs.Sampling.{nozzleArea, drawnGas, isokinetic, deduction, finalWeights, tares, catch, concentration}
+use Rattle.lines.specs.Sheet.{metering, stack, sampling, lines, sheet}
+use Rattle.lines.specs.Stack.{dryWeight, wetWeight, stackPressure, stackTemperature, pointRoot, meanRoot, densityRoot, velocity}
+use Rattle.certs.specs.Choosing.{eligible, keep, chosen, chosenFor}
+use Rattle.certs.specs.Comparing.{holds, distance}
+use Rattle.certs.specs.Factor.{factorMoved, factor, factorOf, coefficientOf, diametersOf}
+use Rattle.findings.specs.Grounds.{broken}
+use Rattle.findings.specs.Listing.{brokenAt, findingAt, ruleFindings, findingsTo, findings, accepted, listed, linesFor, findingsFor}
+use Rattle.findings.specs.Rules.{missing, moved, uneven, diameter, halfDiameter, undisturbed, minimumPoints, nextGrid, nextAllowed, judged, ofKind, certificateGrounds, siteGrounds, fieldGrounds, lineGrounds, weighingGrounds, groundOf, placesOf, placeOf, classOf}
+use Rattle.fields.specs.Numbers.{u16At, u32At, i16At}
+use Rattle.fields.specs.Trouble.{first, checks, upTo}
+use Rattle.parts.specs.Arrays.{padded}
+use Rattle.parts.specs.Rows.{recordTrouble}
+use Rattle.parts.specs.Values.{runAt}
+use Rattle.job.specs.Places.{runStart}
+use Rattle.job.specs.Reading.{readJob}
+use Rattle.job.specs.Troubles.{anyTo, partsTrouble, runTrouble, numberBefore, jobTrouble}
+use Rattle.reduction.specs.Reducing.{worked, chosenIn, reducedRun, runNamed}
+use Rattle.output.specs.Answers.{packed}
+use Rattle.output.specs.Bytes.{le}
+use Rattle.output.specs.Splice.{spliced}
+use Rattle.leverbonnet.specs.Bytes.{entryBytes, entriesBytes, sheetBytes, findingBytes, findingsBytes}
+use Rattle.leverbonnet.specs.Calls.{handed, outcome, success, answerOf, linesAfter, findingsAfter, countAnswer, numberAnswer}
+use Rattle.lines.specs.Starred.{workedLines}
+use Rattle.leverbonnet.specs.Starred.{PrintedJob}
+
+pub printed : PrintedJob
+unfolding grown floorRoot nearestRoot roundDiv within signedWithin sameIdentity sumTo time meteredVolume allowance leakLoss leakLosses correctedVolume meanOrifice meterPressure meterTemperature dryVolume waterVapor moisture unlessZero addScaled nozzleArea drawnGas isokinetic deduction finalWeights tares catch concentration metering stack sampling lines sheet dryWeight wetWeight stackPressure stackTemperature pointRoot meanRoot densityRoot velocity eligible keep chosen chosenFor holds distance factorMoved factor factorOf coefficientOf diametersOf broken brokenAt findingAt ruleFindings findingsTo findings accepted listed linesFor findingsFor missing moved uneven diameter halfDiameter undisturbed minimumPoints nextGrid nextAllowed judged ofKind certificateGrounds siteGrounds fieldGrounds lineGrounds weighingGrounds groundOf placesOf placeOf classOf u16At u32At i16At first checks upTo padded recordTrouble runAt runStart readJob anyTo partsTrouble runTrouble numberBefore jobTrouble worked chosenIn reducedRun runNamed packed le spliced entryBytes entriesBytes sheetBytes findingBytes findingsBytes handed outcome success answerOf linesAfter findingsAfter countAnswer numberAnswer workedLines
+printed = record { answer = refl; lines = refl; findings = refl }
