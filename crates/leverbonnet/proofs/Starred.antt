@@ -3,6 +3,7 @@ use Rattle.lines.proofs.Starred.{roots-hold, leak-holds, worked-lines-hold}
 use Rattle.findings.specs.Starred.{Each, starredFactors, starredIsokinetic}
 use Rattle.findings.proofs.Starred.{starred-factors, starred-isokinetic}
 use Rattle.traverse.proofs.Theorems.{starred-positions}
+use Rattle.job.proofs.Examples.{worked}
 use Rattle.leverbonnet.specs.Starred.{Stands, starred}
 
 pub starred-stand : Each Stands starred
@@ -25,7 +26,7 @@ starred-stand = (
                 starred-isokinetic .1 .0,
                 (
                   starred-isokinetic .1 .1 .0,
-                  (starred-isokinetic .1 .1 .1 .0, (starred-positions, tt)),
+                  (starred-isokinetic .1 .1 .1 .0, (starred-positions, (worked, tt))),
                 ),
               ),
             ),
