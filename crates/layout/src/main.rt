@@ -3,7 +3,7 @@
 
 use crate::points::put_points;
 use crate::words::Numeral;
-use crate::words::number_at;
+use crate::words::number;
 use layouts::rectangle_layout;
 use layouts::round_layout;
 use libc::STDOUT_FILENO;
@@ -41,6 +41,13 @@ fn asked_shape() -> Shape {
         return Shape::Rectangle;
     }
     Shape::Unknown
+}
+
+// Word i of the call as a number. One of more than 4,096 characters is not a number.
+fn number_at(i: usize) -> Numeral {
+    let mut word = io::buffer();
+    let n = os::arg(i, &mut word);
+    number(&word[..n])
 }
 
 // What was wrong with the words, and how to call the program.

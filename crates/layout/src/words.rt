@@ -1,4 +1,4 @@
-// The words of a call, and numbers in them.
+// Numbers in the words of a call.
 
 ghost use mathlib.Core.Path.{_≡_};
 ghost use Rattle.layout.specs.Words.{numberOf};
@@ -10,7 +10,7 @@ pub enum Numeral {
 }
 
 // A number is one digit or more, and at most 65,535.
-fn number(word: &[u8]) -> Numeral
+pub fn number(word: &[u8]) -> Numeral
     ensures { λ r. ⌜ r ≡ numberOf (now (word .entry)) ⌝ }
 {
     if word.len() == 0 {
@@ -33,11 +33,4 @@ fn number(word: &[u8]) -> Numeral
         i += 1;
     }
     Numeral::Is(value as u16)
-}
-
-// Word i of the call. One of more than 4,096 characters is not a number.
-pub fn number_at(i: usize) -> Numeral {
-    let mut word = io::buffer();
-    let n = os::arg(i, &mut word);
-    number(&word[..n])
 }
