@@ -24,13 +24,26 @@ module _ (after : Bool) (kind : ℕ) (identity : Identity) (day : ℕ) (f : ℕ 
   unfolding chosen
   chosen-none = refl
 
-  pub chosen-nearer : (n : ℕ) {best next : Lookup} {test : Bool} → best ≡ chosen after kind identity day f n → test ≡ eligible after kind identity day (f n) → test ≡ true → next ≡ keep after best (f n) → next ≡ chosen after kind identity day f (n + 1)
+  pub chosen-nearer :
+      (n : ℕ) {best next : Lookup} {c : Certificate} {test : Bool}
+      → best ≡ chosen after kind identity day f n
+      → c ≡ f n
+      → test ≡ eligible after kind identity day c
+      → test ≡ true
+      → next ≡ keep after best c
+      → next ≡ chosen after kind identity day f (n + 1)
   unfolding chosen
-  chosen-nearer n e t passed k = rw (add-one, ← t, passed, ← e) k
+  chosen-nearer n e own t passed k = rw (add-one, ← own, ← t, passed, ← e) k
 
-  pub chosen-passed : (n : ℕ) {best : Lookup} {test : Bool} → best ≡ chosen after kind identity day f n → test ≡ eligible after kind identity day (f n) → test ≡ false → best ≡ chosen after kind identity day f (n + 1)
+  pub chosen-passed :
+      (n : ℕ) {best : Lookup} {c : Certificate} {test : Bool}
+      → best ≡ chosen after kind identity day f n
+      → c ≡ f n
+      → test ≡ eligible after kind identity day c
+      → test ≡ false
+      → best ≡ chosen after kind identity day f (n + 1)
   unfolding chosen
-  chosen-passed n e t failed = rw (add-one, ← t, failed) e
+  chosen-passed n e own t failed = rw (add-one, ← own, ← t, failed) e
 
 -- The tests of the definition and the words of the paper say the same
 dated-true : (after : Bool) (day dated : ℕ) → soDated after day dated ≡ true → Dated after day dated

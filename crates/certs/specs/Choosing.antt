@@ -2,9 +2,7 @@
 use Prim.Native.Nat.{ℕ, zero, suc, _≤_, _<_}
 use mathlib.Core.Path.{_≡_}
 use mathlib.Core.Bool.{Bool, true, false, cond, _&&_}
-use mathlib.Core.List.{List}
 use lib.Dec.{leb, ltb, eqb}
-use lib.ListN.{getD}
 use Rattle.records.specs.declared.Identity.{Identity}
 use Rattle.records.specs.declared.Certificate.{Certificate}
 use Rattle.records.specs.declared.Run.{Run}
@@ -59,22 +57,6 @@ chosenFor f n r =
       pitot = chosen false pitot (r .pitot) (r .day) f n;
       nozzle = chosen false nozzle (r .nozzle) (r .day) f n;
     }
-
--- what stands past the last certificate
-abbrev pub noCertificate : Certificate
-noCertificate =
-    record {
-      kind = 0;
-      identity = record { maker = record { first = 0; second = 0; third = 0 }; serial = 0 };
-      day = 0;
-      first = 0;
-      second = 0;
-      third = 0;
-    }
-
--- a job's certificate by index from 0
-abbrev pub certificateOf : List Certificate → ℕ → Certificate
-certificateOf held i = getD held i noCertificate
 
 -- What the choice is promised to be, in the paper's words
 

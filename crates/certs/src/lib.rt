@@ -1,15 +1,18 @@
 // Choosing certificates: by kind, maker and serial, the latest dated on or before the run's day, or the earliest dated later.
-// Everything above reaches a job's certificates only through `chosen`. Relies on the records and their comparison.
+// Everything above reaches a job's certificates only through `chosen`. Relies on the records, their comparison and their place in the file.
 
 pub mod comparison;
 pub mod factor;
 
+use parts::certificate;
 use records::Certificate;
 use records::Identity;
 use records::Run;
 ghost use mathlib.Core.Path.{_≡_};
 ghost use Prim.Native.Nat.{_≤_};
-ghost use Rattle.certs.specs.Choosing.{soDated, nearer, eligible, keep, certificateOf, chosen, chosenFor};
+ghost use lib.ListN.{length};
+ghost use Rattle.parts.specs.Values.{certificatePlace, certificateOf};
+ghost use Rattle.certs.specs.Choosing.{soDated, nearer, eligible, keep, chosen, chosenFor};
 
 // What a certificate is of.
 pub struct Kind;
@@ -82,22 +85,22 @@ fn keep_nearer(best: Lookup, c: Certificate, after: bool) -> Lookup
     best
 }
 
-// The certificate of that kind and identity that is dated nearest the day, on the asked side of it.
+// Of the first `count` certificates of a file, the one of that kind and identity that is dated nearest the day, on the asked side of it.
 pub fn choose(
-    held: [Certificate; 64],
+    s: &[u8],
     count: usize,
     kind: u8,
     identity: Identity,
     day: u16,
     after: bool,
 ) -> Lookup
-    requires { ⌜ count ≤ 64 ⌝ }
-    ensures { λ r. ⌜ r ≡ chosen after kind identity day (certificateOf held) count ⌝ }
+    requires { ⌜ certificatePlace count ≤ length (now s) ⌝ }
+    ensures { λ r. ⌜ r ≡ chosen after kind identity day (certificateOf (now (s .entry))) count ⌝ }
 {
     let mut best = Lookup::Nothing;
     let mut i = 0;
     while i < count {
-        let c = held[i];
+        let c = certificate::nth(s, i);
         if is_eligible(c, kind, identity, day, after) {
             best = keep_nearer(best, c, after);
         }
@@ -106,15 +109,15 @@ pub fn choose(
     best
 }
 
-// The certificates of a run, each found through `choose`.
-pub fn choose_all(held: [Certificate; 64], count: usize, run: Run) -> Chosen
-    requires { ⌜ count ≤ 64 ⌝ }
-    ensures { λ r. ⌜ r ≡ chosenFor (certificateOf held) count run ⌝ }
+// The certificates of a run among the first `count` of its file, each found through `choose`.
+pub fn choose_all(s: &[u8], count: usize, run: Run) -> Chosen
+    requires { ⌜ certificatePlace count ≤ length (now s) ⌝ }
+    ensures { λ r. ⌜ r ≡ chosenFor (certificateOf (now (s .entry))) count run ⌝ }
 {
     Chosen {
-        before: choose(held, count, Kind::METER, run.meter, run.day, false),
-        after: choose(held, count, Kind::METER, run.meter, run.day, true),
-        pitot: choose(held, count, Kind::PITOT, run.pitot, run.day, false),
-        nozzle: choose(held, count, Kind::NOZZLE, run.nozzle, run.day, false),
+        before: choose(s, count, Kind::METER, run.meter, run.day, false),
+        after: choose(s, count, Kind::METER, run.meter, run.day, true),
+        pitot: choose(s, count, Kind::PITOT, run.pitot, run.day, false),
+        nozzle: choose(s, count, Kind::NOZZLE, run.nozzle, run.day, false),
     }
 }

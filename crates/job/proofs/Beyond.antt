@@ -18,10 +18,10 @@ use Rattle.records.specs.declared.Point.{Point}
 use Rattle.records.specs.declared.Segment.{Segment}
 use Rattle.records.proofs.Sums.{sum-ext}
 use Rattle.parts.specs.declared.header.RunHeader.{RunHeader}
-use Rattle.parts.specs.Values.{headerAt, pointPlace, segmentPlace, pointTotal, segmentTotal, runEnd}
+use Rattle.parts.specs.Values.{headerAt, pointPlace, segmentPlace, pointTotal, segmentTotal, runEnd, certificatePlace, certificateOf}
 use Rattle.parts.specs.Rows.{certificateRows, headerRows, pointRows, segmentRows, recordTrouble}
 use Rattle.parts.proofs.Layouts.{whole-at}
-use Rattle.job.specs.Places.{certificateCountOf, runCountOf, certificatePlace, certificateOf, nextStart, runStart}
+use Rattle.job.specs.Places.{certificateCountOf, runCountOf, nextStart, runStart}
 use Rattle.job.specs.Troubles.{fileTrouble, sameCertificate, entryTrouble, certificatesTrouble, goodSeconds, partsTrouble, numberBefore, runTrouble, runsTrouble, endTrouble, jobTrouble}
 use Rattle.job.proofs.Fronts.{Front, front-of, front-same, certificate-count-front, run-count-front, file-rows-front, certificate-front, header-front, point-front, segment-front, weighing-rows-front}
 use Rattle.job.proofs.LookBack.{any-ext}

@@ -10,14 +10,15 @@ use borrow.Author.Tests.{leb-true, eq-eqb, not-true}
 use lib.ListN.{length}
 use Rattle.fields.specs.declared.trouble.Trouble.the-variants.{Clear}
 use Rattle.fields.proofs.FirstTrouble.{clear-left, clear-right, judged-clear, each-clear}
+use Rattle.readings.proofs.Ranges.{within-greatest}
 use Rattle.records.specs.declared.Identity.{Identity}
 use Rattle.records.specs.Records.{sameIdentity}
 use Rattle.records.specs.InRange.{RunOk}
 use Rattle.records.proofs.Identities.{same-refl}
-use Rattle.parts.specs.Values.{headerAt, runAt}
+use Rattle.parts.specs.Values.{headerAt, runAt, RunWithin, certificatePlace, certificateOf}
 use Rattle.parts.specs.Ranges.{CertificateOk}
 use Rattle.parts.proofs.InRange.{certificate-ok, run-ok}
-use Rattle.job.specs.Places.{certificateCountOf, runCountOf, certificatePlace, certificateOf, runStart, runOf}
+use Rattle.job.specs.Places.{certificateCountOf, runCountOf, runStart, runOf}
 use Rattle.job.specs.Troubles.{fileTrouble, sameCertificate, stands, entryTrouble, certificatesTrouble, numberBefore, runsTrouble, jobTrouble}
 use Rattle.job.proofs.ClearRuns.{RunClear, run-clear, run-fits}
 use Rattle.job.proofs.LookBack.{none-of}
@@ -53,6 +54,18 @@ clear-run s e k h =
     let r = each-run s e k h in
     run-ok s (runStart s k) (r .header) (r .points) (r .segments) (r .weighings) (r .total) (r .balanced)
 
+-- and lies within the file
+pub run-within : (s : List ℕ) → jobTrouble s ≡ Clear → (k : ℕ) → k < runCountOf s → RunWithin s (runStart s k)
+unfolding runAt
+run-within s e k h =
+    let r = clear-run s e k h in
+    record {
+      end = run-fits s (runStart s k) (numberBefore s k) (each-clear _ _ (job-clear s e .runs) k h);
+      points = within-greatest 1 64 _ (r .countOfPoints);
+      segments = within-greatest 1 16 _ (r .countOfSegments);
+      weighings = within-greatest 0 8 _ (r .countOfWeighings);
+    }
+
 number-of : (s : List ℕ) (k : ℕ) → runOf s k .number ≡ headerAt s (runStart s k) .number
 unfolding runAt
 number-of s k = refl
@@ -84,6 +97,10 @@ job-end s e =
     le-antisymm (runs-fit s (j .file) (j .certificates) (runCountOf s) (j .runs)) (j .end)
 
 -- Certificates
+
+-- they lie within the file
+pub certificates-within : (s : List ℕ) → jobTrouble s ≡ Clear → certificatePlace (certificateCountOf s) ≤ length s
+certificates-within s e = let j = job-clear s e in certificates-fit s _ (j .file) (j .certificates)
 
 each-entry : (s : List ℕ) → jobTrouble s ≡ Clear → (k : ℕ) → k < certificateCountOf s → entryTrouble s k ≡ Clear
 each-entry s e k h = each-clear (entryTrouble s) _ (job-clear s e .certificates) k h

@@ -44,12 +44,16 @@ run-clear s start lower e =
       balanced = eqb-true _ _ (both-right (totalSeconds (pointTotal s start (headerAt s start .counts))) _ seconds);
     }
 
+-- its own 64 bytes lie within the file, and so does all of it
+pub header-fits : (s : List ℕ) (start lower : ℕ) → runTrouble s start lower ≡ Clear → start + 64 ≤ length s
+header-fits s start lower e = complete-at s start 64 _ (lit≤ tt) (run-clear s start lower e .header)
+
 pub run-fits : (s : List ℕ) (start lower : ℕ) → runTrouble s start lower ≡ Clear → nextStart s start ≤ length s
 run-fits s start lower e =
     let r = run-clear s start lower e in
     row-fits s _ 14 _ _ (lit≤ tt)
     (row-fits s _ 4 _ _ (lit≤ tt)
-    (row-fits s _ 12 _ _ (lit≤ tt) (complete-at s start 64 _ (lit≤ tt) (r .header)) (r .points))
+    (row-fits s _ 12 _ _ (lit≤ tt) (header-fits s start lower e) (r .points))
     (r .segments))
     (r .weighings)
 

@@ -1,21 +1,22 @@
 -- The worked job is read as 01 prints it, each refusal number is given for some file, and no other number is ever given.
 use mathlib.Core.Path.{_≡_, refl}
-use mathlib.Core.List.{List, [], _∷_}
+use mathlib.Core.List.{List, [], _∷_, map}
 use Rattle.fields.specs.Numbers.{u16At, u32At, i16At}
 use Rattle.fields.specs.Trouble.{first, checks, upTo}
 use Rattle.readings.specs.Ranges.{within, signedWithin}
 use Rattle.records.specs.Records.{sameIdentity, sumTo}
+use Rattle.records.specs.Worked.{workedCertificates, workedRun}
 use Rattle.parts.specs.Arrays.{padded}
-use Rattle.parts.specs.Values.{runAt}
+use Rattle.parts.specs.Values.{certificateOf, runAt}
 use Rattle.parts.specs.Rows.{recordTrouble}
 use Rattle.job.specs.Places.{runStart, runOf}
 use Rattle.job.specs.Troubles.{anyTo, partsTrouble, runTrouble, numberBefore, jobTrouble}
 use Rattle.job.specs.Reading.{readJob}
-use Rattle.job.specs.Worked.{workedJob, workedRead, workedRun, Refusal, refusals}
+use Rattle.job.specs.Worked.{workedJob, workedRead, Refusal, refusals}
 
-pub worked : (readJob workedJob ≡ workedRead) × (runOf workedJob 0 ≡ workedRun)
+pub worked : (readJob workedJob ≡ workedRead) × (map (certificateOf workedJob) (0 ∷ 1 ∷ 2 ∷ 3 ∷ []) ≡ workedCertificates) × (runOf workedJob 0 ≡ workedRun)
 unfolding u16At u32At i16At first checks upTo within signedWithin sameIdentity sumTo padded runAt recordTrouble runStart anyTo partsTrouble runTrouble numberBefore jobTrouble readJob
-worked = (refl, refl)
+worked = (refl, refl, refl)
 
 -- each file of a list is answered as the list says
 abbrev pub Answered : List Refusal → Type 0

@@ -11,9 +11,9 @@ use Rattle.fields.specs.declared.trouble.Trouble.the-variants.{At}
 use Rattle.fields.proofs.FirstTrouble.{told, first-told, judged-told, up-told}
 use Rattle.records.specs.declared.Counts.{Counts}
 use Rattle.records.proofs.Identities.{both-left, both-right}
-use Rattle.parts.specs.Values.{headerAt}
+use Rattle.parts.specs.Values.{headerAt, certificatePlace}
 use Rattle.parts.proofs.Layouts.{told-at}
-use Rattle.job.specs.Places.{runCountOf, certificatePlace, runStart}
+use Rattle.job.specs.Places.{runCountOf, runStart}
 use Rattle.job.specs.Troubles.{stands, goodSeconds, entryTrouble, partsTrouble, numberBefore, runTrouble, jobTrouble}
 
 abbrev known : ℕ → ℕ → Bool

@@ -14,10 +14,10 @@ use Rattle.fields.specs.Trouble.{first, judged, incomplete, repeated, wrongSeco
 use Rattle.fields.proofs.FirstTrouble.{each, clear-left, each-clear, checks-reach}
 use Rattle.readings.proofs.Ranges.{within-greatest}
 use Rattle.records.specs.declared.Counts.{Counts}
-use Rattle.parts.specs.Values.{headerAt}
+use Rattle.parts.specs.Values.{headerAt, certificatePlace}
 use Rattle.parts.specs.Rows.{headerRows, recordTrouble, headerTrouble}
 use Rattle.parts.proofs.Layouts.{good-at}
-use Rattle.job.specs.Places.{runCountOf, certificatePlace, runStart}
+use Rattle.job.specs.Places.{runCountOf, runStart}
 use Rattle.job.specs.Troubles.{fileTrouble, stands, goodSeconds, entryTrouble, partsTrouble, numberBefore, runTrouble, runsTrouble, jobTrouble}
 use Rattle.job.proofs.ClearRuns.{run-clear}
 use Rattle.job.proofs.WholeFile.{certificate-count, run-count}

@@ -13,10 +13,11 @@ use Rattle.fields.proofs.FirstTrouble.{clear-left, each-clear}
 use Rattle.readings.proofs.Ranges.{within-least, within-greatest}
 use Rattle.parts.proofs.Arrays.{pad-at}
 use Rattle.parts.proofs.Layouts.{complete-at, good-at}
+use Rattle.parts.specs.Values.{certificatePlace}
 use Rattle.job.specs.declared.Job.{Job}
-use Rattle.job.specs.Places.{certificateCountOf, runCountOf, certificatePlace, certificateOf, runStart}
+use Rattle.job.specs.Places.{certificateCountOf, runCountOf, runStart}
 use Rattle.job.specs.Troubles.{fileRows, fileTrouble, entryTrouble, jobTrouble}
-use Rattle.job.specs.Reading.{noCertificate, refused, jobOf, readJob}
+use Rattle.job.specs.Reading.{refused, jobOf, readJob}
 
 -- a header without trouble: at most 64 certificates and 1 to 16 runs
 pub certificate-count : (s : List ℕ) → fileTrouble s ≡ Clear → certificateCountOf s ≤ 64
@@ -56,16 +57,10 @@ trouble-of s = same (jobTrouble s)
     same Clear = refl
     same (At number place) = refl
 
--- a clear file's counts, certificates and starts are those that stand in it
+-- a clear file's counts and starts are those that stand in it
 pub clear-read : (s : List ℕ) → jobTrouble s ≡ Clear → readJob s ≡ jobOf Clear s
 unfolding readJob
 clear-read s e = ap (λ (t : Trouble). jobOf t s) e
-
-pub held-at : (s : List ℕ) → jobTrouble s ≡ Clear → (k : ℕ) → k < certificateCountOf s → getD (readJob s .held) k noCertificate ≡ certificateOf s k
-unfolding jobTrouble
-held-at s e k h =
-    ap (λ (j : Job). getD (j .held) k noCertificate) (clear-read s e)
-    ∙ pad-at 64 noCertificate (certificateOf s) (certificateCountOf s) k h (certificate-count s (clear-left _ _ e))
 
 pub start-at : (s : List ℕ) → jobTrouble s ≡ Clear → (k : ℕ) → k < runCountOf s → getD (readJob s .starts) k 0 ≡ runStart s k
 unfolding jobTrouble

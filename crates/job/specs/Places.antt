@@ -1,10 +1,9 @@
 -- Where the certificates and the runs of a job stand: a header of 9 bytes, the certificates, the runs, one after the other.
-use Prim.Native.Nat.{ℕ, zero, suc, _+_, _*_}
+use Prim.Native.Nat.{ℕ, zero, suc}
 use mathlib.Core.List.{List}
 use Rattle.fields.specs.Numbers.{u16At}
-use Rattle.records.specs.declared.Certificate.{Certificate}
 use Rattle.records.specs.declared.Run.{Run}
-use Rattle.parts.specs.Values.{certificateAt, headerAt, runAt, runEnd}
+use Rattle.parts.specs.Values.{certificatePlace, headerAt, runAt, runEnd}
 
 -- how many certificates and how many runs the header announces
 abbrev pub certificateCountOf : List ℕ → ℕ
@@ -12,13 +11,6 @@ certificateCountOf s = u16At s 5
 
 abbrev pub runCountOf : List ℕ → ℕ
 runCountOf s = u16At s 7
-
--- certificates by index from 0
-abbrev pub certificatePlace : ℕ → ℕ
-certificatePlace k = 9 + 16 * k
-
-abbrev pub certificateOf : List ℕ → ℕ → Certificate
-certificateOf s k = certificateAt s (certificatePlace k)
 
 -- the place after the run that starts at a place
 abbrev pub nextStart : List ℕ → ℕ → ℕ

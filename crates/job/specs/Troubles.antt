@@ -11,9 +11,9 @@ use Rattle.readings.specs.Ranges.{certificateCount, runCount, totalSeconds}
 use Rattle.records.specs.declared.Certificate.{Certificate}
 use Rattle.records.specs.declared.Counts.{Counts}
 use Rattle.records.specs.Records.{sameIdentity}
-use Rattle.parts.specs.Values.{headerAt, pointPlace, segmentPlace, pointTotal, segmentTotal}
+use Rattle.parts.specs.Values.{headerAt, pointPlace, segmentPlace, pointTotal, segmentTotal, certificatePlace, certificateOf}
 use Rattle.parts.specs.Rows.{recordTrouble, certificateTrouble, headerTrouble, pointsTrouble, segmentsTrouble, weighingsTrouble}
-use Rattle.job.specs.Places.{certificateCountOf, runCountOf, certificatePlace, certificateOf, runStart}
+use Rattle.job.specs.Places.{certificateCountOf, runCountOf, runStart}
 
 -- The header
 

@@ -2,16 +2,9 @@
 use Prim.Native.Nat.{ℕ, zero, suc, _-_, _/_, _%_}
 use mathlib.Core.List.{List, [], _∷_, _++_}
 use lib.ListN.{replicate}
-use lib.IntN.{pos}
 use Rattle.fields.specs.declared.trouble.Trouble.{Trouble}
 use Rattle.fields.specs.declared.trouble.Trouble.the-variants.{Clear, At}
-use Rattle.readings.specs.Ranges.{minus}
-use Rattle.records.specs.declared.Identity.{Identity}
-use Rattle.records.specs.declared.Certificate.{Certificate}
-use Rattle.records.specs.declared.Run.{Run}
-use Rattle.records.specs.Records.{noPoint, noSegment, noWeighing}
 use Rattle.job.specs.declared.Job.{Job}
-use Rattle.job.specs.Reading.{noCertificate}
 
 -- Bytes
 
@@ -67,14 +60,7 @@ lasting seconds =
 abbrev pub workedJob : List ℕ
 workedJob = lasting 3600
 
--- What it is read as
-
-abbrev pub ofABC : ℕ → Identity
-ofABC serial = record { maker = record { first = 65; second = 66; third = 67 }; serial = serial }
-
-abbrev pub issued : ℕ → ℕ → ℕ → ℕ → ℕ → ℕ → Certificate
-issued kind serial day first second third =
-    record { kind = kind; identity = ofABC serial; day = day; first = first; second = second; third = third }
+-- How many certificates and runs it is read to hold, and where its run starts
 
 abbrev pub workedRead : Job
 workedRead =
@@ -82,41 +68,7 @@ workedRead =
       trouble = Clear;
       certificates = 4;
       runs = 1;
-      held =
-          issued 1 10442 8990 10000 0 0
-          ∷ issued 1 10442 9020 9800 0 0
-          ∷ issued 2 1 8990 840 0 0
-          ∷ issued 3 2 8990 250 250 250
-          ∷ replicate 60 noCertificate;
       starts = 73 ∷ replicate 15 0;
-    }
-
-abbrev pub workedRun : Run
-workedRun =
-    record {
-      number = 7;
-      day = 9000;
-      meter = ofABC 10442;
-      pitot = ofABC 1;
-      nozzle = ofABC 2;
-      pb = 3000;
-      pg = minus 68;
-      co2 = 120;
-      o2 = 60;
-      first = 100000;
-      last = 140000;
-      water = 1000;
-      site = record { shape = 1; first = 240; second = 0; next = 480; last = 1920 };
-      acetone = record { residue = 8; blank = 200; rinse = 100; density = 7851 };
-      counts = record { points = 8; segments = 1; weighings = 2 };
-      points =
-          replicate 8 (record { seconds = 450; head = 500; orifice = 200; stack = pos 2000; inlet = pos 800; outlet = pos 800 })
-          ++ replicate 56 noPoint;
-      segments = record { seconds = 3600; leak = 30 } ∷ replicate 15 noSegment;
-      weighings =
-          record { kind = 1; tare = 4000; first = 4912; second = 4910 }
-          ∷ record { kind = 2; tare = 1000000; first = 1000153; second = 1000150 }
-          ∷ replicate 6 noWeighing;
     }
 
 -- Refusals

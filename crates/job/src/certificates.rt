@@ -1,48 +1,14 @@
-// The certificates of a job, none of which repeats an earlier one.
+// The certificates of a job: each in itself, and none that repeats an earlier one.
 
-use crate::file;
-use fields::numbers;
 use fields::trouble::Trouble;
 use parts::certificate;
 use records::Certificate;
-use records::Identity;
-use records::Maker;
 ghost use mathlib.Core.Path.{_≡_};
 ghost use Prim.Native.Nat.{_<_, _≤_};
-ghost use lib.ListN.{getD, replicate};
-ghost use Rattle.parts.specs.Arrays.{padded};
-ghost use Rattle.job.specs.Places.{certificateOf};
+ghost use lib.ListN.{length};
+ghost use Rattle.fields.specs.Trouble.{upTo};
+ghost use Rattle.parts.specs.Values.{certificatePlace, certificateOf};
 ghost use Rattle.job.specs.Troubles.{sameCertificate, anyTo, entryTrouble};
-ghost use Rattle.job.specs.Reading.{noCertificate};
-ghost use Rattle.job.specs.Walks.{HeldIs};
-
-// The certificates read: complete only where there is no trouble.
-pub struct Held {
-    pub trouble: Trouble,
-    pub all: [Certificate; 64],
-}
-
-// No certificate at all.
-pub fn none() -> [Certificate; 64]
-    ensures { λ r. ⌜ r ≡ replicate 64 noCertificate ⌝ }
-{
-    let none = Certificate {
-        kind: 0,
-        identity: Identity {
-            maker: Maker {
-                first: 0,
-                second: 0,
-                third: 0,
-            },
-            serial: 0,
-        },
-        day: 0,
-        first: 0,
-        second: 0,
-        third: 0,
-    };
-    [none; 64]
-}
 
 // Kind, maker, serial and day all count.
 fn same(a: Certificate, b: Certificate) -> bool
@@ -59,14 +25,14 @@ fn same(a: Certificate, b: Certificate) -> bool
     a.day == b.day
 }
 
-// Whether one of the first `n` is the same as `c`.
-fn stands(all: [Certificate; 64], n: usize, c: Certificate) -> bool
-    requires { ⌜ n ≤ 64 ⌝ }
-    ensures { λ r. ⌜ r ≡ anyTo (λ j. sameCertificate (getD all j noCertificate) c) n ⌝ }
+// Whether one of the first `n` certificates of the file is the same as `c`.
+fn stands(s: &[u8], n: usize, c: Certificate) -> bool
+    requires { ⌜ certificatePlace n ≤ length (now s) ⌝ }
+    ensures { λ r. ⌜ r ≡ anyTo (λ j. sameCertificate (certificateOf (now (s .entry)) j) c) n ⌝ }
 {
     let mut j = 0;
     while j < n {
-        if same(all[j], c) {
+        if same(certificate::nth(s, j), c) {
             return true;
         }
         j += 1;
@@ -74,34 +40,31 @@ fn stands(all: [Certificate; 64], n: usize, c: Certificate) -> bool
     false
 }
 
-// The trouble of certificate `k`, where `all` holds the certificates before it.
-fn entry_trouble(s: &[u8], all: [Certificate; 64], k: usize) -> Trouble
-    requires { ⌜ (k < 64) × (all ≡ padded 64 noCertificate (certificateOf (now s)) k) ⌝ }
+// The trouble of certificate `k`. It is compared with the earlier ones only where it is complete.
+fn entry_trouble(s: &[u8], k: usize) -> Trouble
+    requires { ⌜ k < 64 ⌝ }
     ensures { λ r. ⌜ r ≡ entryTrouble (now (s .entry)) k ⌝ }
 {
-    let at = file::SIZE + certificate::SIZE * k;
+    let at = certificate::FIRST_AT + certificate::SIZE * k;
     let t = certificate::trouble(s, at);
-    let c = certificate::certificate(numbers::tail(s, at));
-    t.unless(!stands(all, k, c), Trouble::REPEATED, at)
+    let Trouble::Clear = t else {
+        return t;
+    };
+    t.unless(!stands(s, k, certificate::nth(s, k)), Trouble::REPEATED, at)
 }
 
-// The first `n` certificates of the file, up to the first in trouble.
-pub fn read(s: &[u8], n: usize) -> Held
+// The first trouble of the `n` certificates of the file.
+pub fn troubles(s: &[u8], n: usize) -> Trouble
     requires { ⌜ n ≤ 64 ⌝ }
-    ensures { λ r. ⌜ HeldIs (now (s .entry)) n r ⌝ }
+    ensures { λ r. ⌜ r ≡ upTo (entryTrouble (now (s .entry))) n ⌝ }
 {
-    let mut all = none();
     let mut k = 0;
     while k < n {
-        let t = entry_trouble(s, all, k);
+        let t = entry_trouble(s, k);
         let Trouble::Clear = t else {
-            return Held { trouble: t, all };
+            return t;
         };
-        all[k] = certificate::certificate(numbers::tail(s, file::SIZE + certificate::SIZE * k));
         k += 1;
     }
-    Held {
-        trouble: Trouble::Clear,
-        all,
-    }
+    Trouble::Clear
 }

@@ -5,6 +5,8 @@ use fields::trouble::Trouble;
 use readings::headers::CertificateCount;
 use readings::headers::RunCount;
 ghost use mathlib.Core.Path.{_≡_};
+ghost use Prim.Native.Nat.{_≤_};
+ghost use lib.ListN.{length};
 ghost use Rattle.job.specs.Troubles.{marked, fileTrouble};
 
 pub const SIZE: usize = 9;
@@ -18,6 +20,7 @@ pub const RUNS_AT: usize = 7;
 
 // Whether the file begins with "SRJ".
 fn marked(s: &[u8]) -> bool
+    requires { ⌜ 9 ≤ length (now s) ⌝ }
     ensures { λ r. ⌜ r ≡ marked (now (s .entry)) ⌝ }
 {
     if numbers::byte(s, 0) != 83 {

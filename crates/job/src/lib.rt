@@ -1,5 +1,5 @@
 // The walk over a whole job file, from the front to the first trouble met or to the end.
-// Holds no heap: a job is its certificates by value and the place of each run. Relies on the records of parts.
+// Holds no heap and copies no record: a job is its counts and the place of each run. Relies on the records of parts.
 
 mod certificates;
 mod file;
@@ -8,16 +8,14 @@ mod runs;
 use fields::numbers;
 use fields::trouble::Trouble;
 use parts::certificate;
-use records::Certificate;
 ghost use mathlib.Core.Path.{_≡_};
 ghost use Rattle.job.specs.Reading.{refused, readJob};
 
-// What a file holds. A job in trouble holds nothing: no certificates, no runs, and zeros in both arrays.
+// What a file holds. A job in trouble holds nothing: no certificates, no runs, and zeros for places.
 pub struct Job {
     pub trouble: Trouble,
     pub certificates: usize,
     pub runs: usize,
-    pub held: [Certificate; 64],
     pub starts: [usize; 16],
 }
 
@@ -28,7 +26,6 @@ fn refused(t: Trouble) -> Job
         trouble: t,
         certificates: 0,
         runs: 0,
-        held: certificates::none(),
         starts: [0usize; 16],
     }
 }
@@ -43,24 +40,21 @@ pub fn read(s: &[u8]) -> Job
     };
     let certificates = numbers::u16_at(s, file::CERTIFICATES_AT) as usize;
     let runs = numbers::u16_at(s, file::RUNS_AT) as usize;
-    let c = certificates::read(s, certificates);
-    let t = c.trouble;
+    let t = certificates::troubles(s, certificates);
     let Trouble::Clear = t else {
         return refused(t);
     };
-    let first = file::SIZE + certificate::SIZE * certificates;
+    let first = certificate::FIRST_AT + certificate::SIZE * certificates;
     let w = runs::read(s, first, runs);
     let t = w.trouble;
     let Trouble::Clear = t else {
         return refused(t);
     };
-    let held = c.all;
     let starts = w.starts;
     Job {
         trouble: Trouble::Clear,
         certificates,
         runs,
-        held,
         starts,
     }
 }

@@ -11,6 +11,7 @@ use records::Counts;
 ghost use mathlib.Core.Path.{_≡_};
 ghost use Prim.Native.Nat.{_+_, _≤_};
 ghost use lib.ListN.{length};
+ghost use Rattle.parts.specs.Values.{segmentPlace};
 ghost use Rattle.job.specs.Places.{nextStart, runStart};
 ghost use Rattle.job.specs.Troubles.{goodSeconds, partsTrouble, runTrouble};
 ghost use Rattle.job.specs.Walks.{WalkIs};
@@ -22,7 +23,7 @@ pub struct Walk {
 }
 
 fn good_seconds(s: &[u8], start: usize, n: Counts) -> bool
-    requires { ⌜ start ≤ length (now s) ⌝ }
+    requires { ⌜ segmentPlace start n (n .segments) ≤ length (now s) ⌝ }
     ensures { λ r. ⌜ r ≡ goodSeconds (now (s .entry)) start n ⌝ }
 {
     let points = n.points as usize;
@@ -78,7 +79,7 @@ fn run_trouble(s: &[u8], start: usize, lower: u16) -> Trouble
 
 // The place after the run that starts at `start`.
 fn next_start(s: &[u8], start: usize) -> usize
-    requires { ⌜ start ≤ length (now s) ⌝ }
+    requires { ⌜ start + 64 ≤ length (now s) ⌝ }
     ensures { λ r. ⌜ r ≡ nextStart (now (s .entry)) start ⌝ }
 {
     let n = header::counts(numbers::tail(s, start));

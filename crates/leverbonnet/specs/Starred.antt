@@ -7,11 +7,14 @@ use lib.ListN.{replicate}
 use Rattle.lines.specs.Starred.{Example, roots, leak, workedLines}
 use Rattle.findings.specs.Starred.{Each, StarredFactor, FactorStands, StarredIsokinetic, IsokineticStands}
 use Rattle.traverse.specs.Positions.{position, starredPositions}
+use Rattle.records.specs.declared.Certificate.{Certificate}
 use Rattle.records.specs.declared.Run.{Run}
+use Rattle.records.specs.Worked.{workedCertificates, workedRun}
+use Rattle.parts.specs.Values.{certificateOf}
 use Rattle.job.specs.declared.Job.{Job}
 use Rattle.job.specs.Places.{runOf}
 use Rattle.job.specs.Reading.{readJob}
-use Rattle.job.specs.Worked.{workedJob, workedRead, workedRun}
+use Rattle.job.specs.Worked.{workedJob, workedRead}
 use Rattle.output.specs.Bytes.{le}
 use Rattle.output.specs.Answers.{packed}
 use Rattle.leverbonnet.specs.Calls.{outcome, answerOf, linesAfter, findingsAfter}
@@ -22,7 +25,7 @@ pub data StarredValue : Type 0 where
   factor : StarredFactor → StarredValue
   percent : StarredIsokinetic → StarredValue
   positions : List ℕ → StarredValue
-  reading : List ℕ → Job → Run → StarredValue
+  reading : List ℕ → Job → List Certificate → Run → StarredValue
 
 -- it stands as the paper prints it
 abbrev pub Stands : StarredValue → Type 0
@@ -30,7 +33,8 @@ Stands (value e) = e .worked ≡ e .expected
 Stands (factor f) = FactorStands f
 Stands (percent p) = IsokineticStands p
 Stands (positions ps) = map (position 6) (1 ∷ 2 ∷ 3 ∷ 4 ∷ 5 ∷ 6 ∷ []) ≡ ps
-Stands (reading file job run) = (readJob file ≡ job) × (runOf file 0 ≡ run)
+Stands (reading file job certificates run) =
+    (readJob file ≡ job) × (map (certificateOf file) (0 ∷ 1 ∷ 2 ∷ 3 ∷ []) ≡ certificates) × (runOf file 0 ≡ run)
 
 -- roots, leak and the worked job's lines; the factor moved and not moved; line 18 on either side; the positions; the printed job's file
 abbrev pub starred : List StarredValue
@@ -46,7 +50,7 @@ starred =
     ∷ percent (record { line = 11000; fifteen = false; sixteen = false })
     ∷ percent (record { line = 11001; fifteen = false; sixteen = true })
     ∷ positions starredPositions
-    ∷ reading workedJob workedRead workedRun
+    ∷ reading workedJob workedRead workedCertificates workedRun
     ∷ []
 
 -- lines that are present, as bytes

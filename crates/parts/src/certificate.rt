@@ -10,13 +10,18 @@ use readings::certificates::NozzleDiameter;
 use readings::certificates::Unused;
 use records::Certificate;
 ghost use mathlib.Core.Path.{_≡_};
+ghost use Prim.Native.Nat.{_+_, _≤_};
+ghost use lib.ListN.{length};
 ghost use Rattle.fields.specs.declared.trouble.Trouble.the-variants.{Clear};
 ghost use Rattle.fields.specs.Trouble.{checks};
-ghost use Rattle.parts.specs.Values.{certificate};
+ghost use Rattle.parts.specs.Values.{certificate, certificatePlace, certificateOf};
 ghost use Rattle.parts.specs.Ranges.{firstValue, laterValue};
 ghost use Rattle.parts.specs.Rows.{certificateRows, certificateTrouble};
 
 pub const SIZE: usize = 16;
+
+// Where the first one stands in a file: after the header.
+pub const FIRST_AT: usize = 9;
 
 // What a certificate is of.
 pub const METER: u8 = 1;
@@ -26,6 +31,7 @@ pub const PITOT: u8 = 2;
 pub const NOZZLE: u8 = 3;
 
 pub fn certificate(t: &[u8]) -> Certificate
+    requires { ⌜ 16 ≤ length (now t) ⌝ }
     ensures { λ r. ⌜ r ≡ certificate (now (t .entry)) ⌝ }
 {
     Certificate {
@@ -36,6 +42,14 @@ pub fn certificate(t: &[u8]) -> Certificate
         second: numbers::u16_at(t, 12),
         third: numbers::u16_at(t, 14),
     }
+}
+
+// Certificate k of a file, counted from 0.
+pub fn nth(s: &[u8], k: usize) -> Certificate
+    requires { ⌜ certificatePlace k + 16 ≤ length (now s) ⌝ }
+    ensures { λ r. ⌜ r ≡ certificateOf (now (s .entry)) k ⌝ }
+{
+    certificate(&s[FIRST_AT + SIZE * k..])
 }
 
 // Whether the first value is in range, which goes by the kind.

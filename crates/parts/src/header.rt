@@ -25,6 +25,8 @@ use records::Counts;
 use records::Identity;
 use records::Site;
 ghost use mathlib.Core.Path.{_≡_};
+ghost use Prim.Native.Nat.{_≤_};
+ghost use lib.ListN.{length};
 ghost use Rattle.fields.specs.declared.trouble.Trouble.the-variants.{Clear};
 ghost use Rattle.fields.specs.Trouble.{checks};
 ghost use Rattle.parts.specs.Values.{site, acetone, counts, header};
@@ -53,6 +55,7 @@ pub struct RunHeader {
 }
 
 fn site(t: &[u8]) -> Site
+    requires { ⌜ 64 ≤ length (now t) ⌝ }
     ensures { λ r. ⌜ r ≡ site (now (t .entry)) ⌝ }
 {
     Site {
@@ -65,6 +68,7 @@ fn site(t: &[u8]) -> Site
 }
 
 fn acetone(t: &[u8]) -> Acetone
+    requires { ⌜ 64 ≤ length (now t) ⌝ }
     ensures { λ r. ⌜ r ≡ acetone (now (t .entry)) ⌝ }
 {
     Acetone {
@@ -76,6 +80,7 @@ fn acetone(t: &[u8]) -> Acetone
 }
 
 pub fn counts(t: &[u8]) -> Counts
+    requires { ⌜ 64 ≤ length (now t) ⌝ }
     ensures { λ r. ⌜ r ≡ counts (now (t .entry)) ⌝ }
 {
     Counts {
@@ -86,6 +91,7 @@ pub fn counts(t: &[u8]) -> Counts
 }
 
 pub fn header(t: &[u8]) -> RunHeader
+    requires { ⌜ 64 ≤ length (now t) ⌝ }
     ensures { λ r. ⌜ r ≡ header (now (t .entry)) ⌝ }
 {
     RunHeader {

@@ -7,7 +7,8 @@ use readings::certificates::Serial;
 use records::Identity;
 use records::Maker;
 ghost use mathlib.Core.Path.{_≡_};
-ghost use Prim.Native.Nat.{_≤_};
+ghost use Prim.Native.Nat.{_+_, _≤_};
+ghost use lib.ListN.{length};
 ghost use Rattle.fields.specs.Trouble.{checks};
 ghost use Rattle.parts.specs.Values.{identity};
 ghost use Rattle.parts.specs.Ranges.{makerLetters};
@@ -15,7 +16,7 @@ ghost use Rattle.parts.specs.Rows.{identityRows};
 
 // The identity at a place of a record.
 pub fn identity(t: &[u8], at: usize) -> Identity
-    requires { ⌜ at ≤ 64 ⌝ }
+    requires { ⌜ at + 7 ≤ length (now t) ⌝ }
     ensures { λ r. ⌜ r ≡ identity (now (t .entry)) at ⌝ }
 {
     Identity {

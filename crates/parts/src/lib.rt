@@ -11,10 +11,11 @@ pub mod weighing;
 use fields::numbers;
 use records::Run;
 ghost use mathlib.Core.Path.{_≡_};
-ghost use Rattle.parts.specs.Values.{runAt};
+ghost use Rattle.parts.specs.Values.{runAt, RunWithin};
 
-// The run that starts at a place of a file, with its points, segments and weighings as far as there is room for them.
+// The run that starts at a place of a file.
 pub fn run(s: &[u8], start: usize) -> Run
+    requires { ⌜ RunWithin (now s) start ⌝ }
     ensures { λ r. ⌜ r ≡ runAt (now (s .entry)) start ⌝ }
 {
     let t = numbers::tail(s, start);

@@ -18,6 +18,7 @@ ghost use Rattle.parts.specs.Rows.{segmentRows, segmentTrouble, segments
 pub const SIZE: usize = 4;
 
 pub fn segment(t: &[u8]) -> Segment
+    requires { ⌜ 4 ≤ length (now t) ⌝ }
     ensures { λ r. ⌜ r ≡ segment (now (t .entry)) ⌝ }
 {
     Segment {
@@ -62,21 +63,21 @@ pub fn troubles(s: &[u8], at: usize, n: usize) -> Trouble
 
 // The seconds of the `n` segments from the front of `t` on.
 pub fn seconds(t: &[u8], n: usize) -> u32
-    requires { ⌜ n ≤ 255 ⌝ }
+    requires { ⌜ (n ≤ 255) × (4 * n ≤ length (now t)) ⌝ }
     ensures { λ r. ⌜ r ≡ sumTo (λ i. segmentAt (now (t .entry)) (4 * i) .seconds) n ⌝ }
 {
     let mut total: u32 = 0;
     let mut i = 0;
     while i < n {
-        let p = numbers::tail(t, SIZE * i);
-        total += numbers::u16_at(p, 0) as u32;
+        total += numbers::u16_at(t, SIZE * i) as u32;
         i += 1;
     }
     total
 }
 
-// The `n` segments from the front of `t` on, as far as there is room.
+// The `n` segments from the front of `t` on.
 pub fn segments(t: &[u8], n: usize) -> [Segment; 16]
+    requires { ⌜ (n ≤ 16) × (4 * n ≤ length (now t)) ⌝ }
     ensures { λ r. ⌜ r ≡ padded 16 noSegment (λ i. segmentAt (now (t .entry)) (4 * i)) n ⌝ }
 {
     let none = Segment {
@@ -86,9 +87,6 @@ pub fn segments(t: &[u8], n: usize) -> [Segment; 16]
     let mut all = [none; 16];
     let mut i = 0;
     while i < n {
-        if 16 <= i {
-            return all;
-        }
         all[i] = segment(numbers::tail(t, SIZE * i));
         i += 1;
     }

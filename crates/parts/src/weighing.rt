@@ -19,6 +19,7 @@ ghost use Rattle.parts.specs.Rows.{weighingRows, weighingTrouble, weighi
 pub const SIZE: usize = 14;
 
 pub fn weighing(t: &[u8]) -> Weighing
+    requires { ⌜ 14 ≤ length (now t) ⌝ }
     ensures { λ r. ⌜ r ≡ weighing (now (t .entry)) ⌝ }
 {
     Weighing {
@@ -66,8 +67,9 @@ pub fn troubles(s: &[u8], at: usize, n: usize) -> Trouble
     Trouble::Clear
 }
 
-// The `n` weighings from the front of `t` on, as far as there is room.
+// The `n` weighings from the front of `t` on.
 pub fn weighings(t: &[u8], n: usize) -> [Weighing; 8]
+    requires { ⌜ (n ≤ 8) × (14 * n ≤ length (now t)) ⌝ }
     ensures { λ r. ⌜ r ≡ padded 8 noWeighing (λ i. weighingAt (now (t .entry)) (14 * i)) n ⌝ }
 {
     let none = Weighing {
@@ -79,9 +81,6 @@ pub fn weighings(t: &[u8], n: usize) -> [Weighing; 8]
     let mut all = [none; 8];
     let mut i = 0;
     while i < n {
-        if 8 <= i {
-            return all;
-        }
         all[i] = weighing(numbers::tail(t, SIZE * i));
         i += 1;
     }

@@ -1,28 +1,24 @@
 -- A job without trouble: its counts, where its runs start, its certificates, and that they are in range.
-use Prim.Native.Nat.{ℕ, zero, suc, _+_, _≤_, _<_}
+use Prim.Native.Nat.{ℕ, _+_, _≤_, _<_}
 use mathlib.Core.Path.{_≡_, refl, sym, _∙_, ap, subst⁻¹}
-use mathlib.Core.Bool.{Bool, true, false}
 use mathlib.Core.List.{List}
-use native.Mathlib.Nat.{lt-trans, lt-suc-self}
 use mathlib.Core.Logic.{_⊎_, inl, inr}
 use native.Mathlib.Numerals.{add-one}
+use native.Mathlib.Omega.{arith}
 use borrow.Author.Tests.{eq-eqb, ne-eqb}
-use lib.ListN.{getD, drop}
+use lib.ListN.{length, getD, drop}
 use Rattle.fields.specs.declared.trouble.Trouble.{Trouble}
 use Rattle.fields.specs.declared.trouble.Trouble.the-variants.{Clear, At}
-use Rattle.records.specs.declared.Certificate.{Certificate}
-use Rattle.records.specs.declared.Identity.{Identity}
-use Rattle.records.specs.declared.Run.{Run}
-use Rattle.certs.specs.Choosing.{meter, pitot, nozzle, chosen, chosenFor, certificateOf as heldCertificate}
-use Rattle.certs.specs.InRange.{CertificateOk, CertificatesOk}
+use Rattle.certs.specs.InRange.{CertificateOk}
 use Rattle.parts.proofs.Arrays.{pad-at}
+use Rattle.parts.proofs.Places.{enough}
 use Rattle.job.specs.declared.Job.{Job}
-use Rattle.job.specs.Places.{certificateCountOf, runCountOf, certificateOf, runStart, runOf}
-use Rattle.job.specs.Reading.{noCertificate, jobOf, readJob}
-use Rattle.job.proofs.ClearJobs.{job-clear, clear-run, clear-certificate}
-use Rattle.job.proofs.WholeFile.{certificate-count, run-count}
+use Rattle.job.specs.Places.{certificateCountOf, runCountOf, runStart, runOf}
+use Rattle.job.specs.Reading.{jobOf, readJob}
+use Rattle.job.proofs.ClearJobs.{job-clear, clear-run, clear-certificate, run-within, certificates-within}
+use Rattle.job.proofs.WholeFile.{run-count}
 use Rattle.fields.specs.Numbers.{u16At}
-use Rattle.parts.specs.Values.{runAt}
+use Rattle.parts.specs.Values.{runAt, certificateOf, RunWithin}
 use Rattle.reduction.specs.declared.Which.{Which}
 use Rattle.reduction.specs.declared.Which.the-variants.{Run as RunAt, Nothing}
 use Rattle.job.specs.Troubles.{jobTrouble}
@@ -44,60 +40,39 @@ module _ (s : List ℕ) (j : Job) (ok : ClearJob s j) where
   pub few-runs : j .runs ≤ 16
   few-runs = rw count-of-runs (run-count s (job-clear s (ok .clear) .file))
 
-  few : certificateCountOf s ≤ 64
-  few = certificate-count s (job-clear s (ok .clear) .file)
-
   pub start-of : (k : ℕ) → k < runCountOf s → getD (j .starts) k 0 ≡ runStart s k
   start-of k inside =
       ap (λ (i : Job). getD (i .starts) k 0) whole
       ∙ pad-at 16 0 (runStart s) (runCountOf s) k inside (run-count s (job-clear s (ok .clear) .file))
 
-  pub held-of : (i : ℕ) → i < certificateCountOf s → heldCertificate (j .held) i ≡ certificateOf s i
-  held-of i inside =
-      ap (λ (h : Job). getD (h .held) i noCertificate) whole
-      ∙ pad-at 64 noCertificate (certificateOf s) (certificateCountOf s) i inside few
+  -- its runs lie within the file
+  pub lies-within : (k : ℕ) → k < runCountOf s → RunWithin s (getD (j .starts) k 0)
+  lies-within k inside = subst⁻¹ (RunWithin s) (start-of k inside) (run-within s (ok .clear) k inside)
 
-  -- its certificates and its runs can be worked with
-  pub held-ok : CertificatesOk (heldCertificate (j .held)) (j .certificates)
-  held-ok = subst⁻¹ (λ n. CertificatesOk (heldCertificate (j .held)) n) count-of-certificates (record { each = each })
+  -- so that the number of each can be read
+  pub number-left : (k : ℕ) → k < j .runs → {t : List ℕ} → t ≡ drop (getD (j .starts) k 0) s → 2 ≤ length t
+  number-left k inside e =
+      enough s (getD (j .starts) k 0) 2 e (omega (arith, lies-within k (rw count-of-runs at inside) .end))
+
+  -- and each can be worked with the job's certificates
+  pub workable : (k : ℕ) → k < runCountOf s → Workable s (j .certificates) (runOf s k)
+  workable k inside =
+      subst⁻¹ (λ n. Workable s n (runOf s k)) count-of-certificates
+      (record { run = clear-run s (ok .clear) k inside; within = certificates-within s (ok .clear); certificates = record { each = each } })
     where
-      each : (i : ℕ) → i < certificateCountOf s → CertificateOk (heldCertificate (j .held) i)
-      each i inside =
-          let c = clear-certificate s (ok .clear) i inside in
-          rw (held-of i inside)
-          (record {
+      each : (i : ℕ) → i < certificateCountOf s → CertificateOk (certificateOf s i)
+      each i held =
+          let c = clear-certificate s (ok .clear) i held in
+          record {
             factor = c .factor;
             coefficient = c .coefficient;
             diameters = λ e. record { first = c .firstDiameter e; second = c .secondDiameter e; third = c .thirdDiameter e };
-          })
-
-  pub workable : (k : ℕ) → k < runCountOf s → Workable (runOf s k) (j .held) (j .certificates)
-  workable k inside =
-      record { run = clear-run s (ok .clear) k inside; few = rw count-of-certificates few; certificates = held-ok }
+          }
 
 -- a run of a clear job has at most 98 findings
 pub found-few : (s : List ℕ) → jobTrouble s ≡ Clear → (k : ℕ) → k < runCountOf s → reducedRun s k .findings .count ≤ 98
 unfolding reducedRun worked listed
 found-few s clear k inside = at-most-for (runOf s k) (chosenIn s k) (clear-run s clear k inside)
-
--- The choice looks at the first n certificates alone
-module _ (after : Bool) (kind : ℕ) (identity : Identity) (day : ℕ) where
-  chosen-ext : (f g : ℕ → Certificate) (n : ℕ) → ((i : ℕ) → i < n → f i ≡ g i) → chosen after kind identity day f n ≡ chosen after kind identity day g n
-  unfolding chosen
-  chosen-ext f g zero same = refl
-  chosen-ext f g (suc n) same =
-      rw (same n (lt-suc-self n), chosen-ext f g n (λ i inside. same i (lt-trans inside (lt-suc-self n))))
-
-pub chosenFor-ext : (f g : ℕ → Certificate) (n : ℕ) (r : Run) → ((i : ℕ) → i < n → f i ≡ g i) → chosenFor f n r ≡ chosenFor g n r
-unfolding chosenFor
-chosenFor-ext f g n r same =
-    λ i.
-    record {
-      before = chosen-ext false meter (r .meter) (r .day) f g n same i;
-      after = chosen-ext true meter (r .meter) (r .day) f g n same i;
-      pitot = chosen-ext false pitot (r .pitot) (r .day) f g n same i;
-      nozzle = chosen-ext false nozzle (r .nozzle) (r .day) f g n same i;
-    }
 
 -- the search for a run by its number has passed k runs
 pub record Sought (s : List ℕ) (number : ℕ) (found : Which) (k : ℕ) : Type 0 where

@@ -5,7 +5,6 @@ use mathlib.Core.Bool.{Bool}
 use mathlib.Core.List.{List}
 use lib.ListN.{length, take, replicate}
 use lib.Seq.{take-append-seam}
-use Rattle.records.specs.declared.Certificate.{Certificate}
 use Rattle.records.specs.declared.Run.{Run}
 use Rattle.lines.specs.declared.Diameters.{Diameters}
 use Rattle.lines.specs.declared.Lines.{Lines}
@@ -14,7 +13,8 @@ use Rattle.lines.specs.declared.Value.{Value}
 use Rattle.lines.specs.Promise.{Workable as WorkableLines}
 use Rattle.lines.specs.Sheet.{lines, sheet}
 use Rattle.certs.specs.declared.Chosen.{Chosen}
-use Rattle.certs.specs.Choosing.{certificateOf, chosenFor}
+use Rattle.parts.specs.Values.{certificateOf}
+use Rattle.certs.specs.Choosing.{chosenFor}
 use Rattle.certs.specs.Factor.{factorOf, coefficientOf, diametersOf}
 use Rattle.certs.specs.InRange.{ChosenOk}
 use Rattle.certs.proofs.Values.{chosen-in-range, factor-range, coefficient-range, diameters-range}
@@ -24,11 +24,11 @@ use Rattle.findings.specs.Listing.{most, noFinding, findings, accepted, listed,
 use Rattle.reduction.specs.declared.Reduced.{Reduced}
 use Rattle.reduction.specs.Reducing.{Workable, worked}
 
-module _ (r : Run) (held : List Certificate) (count : ℕ) (ok : Workable r held count) where
+module _ (s : List ℕ) (count : ℕ) (r : Run) (ok : Workable s count r) where
   -- what is chosen for a run is in range, and so are the values that it gives
-  pub lines-workable : {ch : Chosen} {y cp : Value} {nozzle : Diameters} → ch ≡ chosenFor (certificateOf held) count r → y ≡ factorOf ch → cp ≡ coefficientOf ch → nozzle ≡ diametersOf ch → WorkableLines r y cp nozzle
+  pub lines-workable : {ch : Chosen} {y cp : Value} {nozzle : Diameters} → ch ≡ chosenFor (certificateOf s) count r → y ≡ factorOf ch → cp ≡ coefficientOf ch → nozzle ≡ diametersOf ch → WorkableLines r y cp nozzle
   lines-workable {ch} ec ey ecp en =
-      let chosen : ChosenOk ch = subst⁻¹ ChosenOk ec (chosen-in-range (certificateOf held) count r (ok .certificates)) in
+      let chosen : ChosenOk ch = subst⁻¹ ChosenOk ec (chosen-in-range (certificateOf s) count r (ok .certificates)) in
       record {
         run = ok .run;
         factor = rw ey (factor-range ch chosen);

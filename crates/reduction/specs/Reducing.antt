@@ -4,28 +4,29 @@ use mathlib.Core.Path.{_≡_}
 use mathlib.Core.Bool.{cond}
 use mathlib.Core.List.{List}
 use lib.Dec.{eqb}
+use lib.ListN.{length}
 use Rattle.fields.specs.declared.trouble.Trouble.the-variants.{Clear}
-use Rattle.records.specs.declared.Certificate.{Certificate}
 use Rattle.records.specs.declared.Run.{Run}
 use Rattle.records.specs.InRange.{RunOk}
 use Rattle.lines.specs.Sheet.{sheet}
 use Rattle.certs.specs.declared.Chosen.{Chosen}
-use Rattle.certs.specs.Choosing.{certificateOf as heldCertificate, chosenFor}
+use Rattle.certs.specs.Choosing.{chosenFor}
 use Rattle.certs.specs.InRange.{CertificatesOk}
 use Rattle.findings.specs.Listing.{accepted, linesFor, findingsFor, listed}
+use Rattle.parts.specs.Values.{certificatePlace, certificateOf}
 use Rattle.job.specs.declared.Job.{Job}
-use Rattle.job.specs.Places.{certificateCountOf, runCountOf, certificateOf, runOf}
+use Rattle.job.specs.Places.{certificateCountOf, runCountOf, runOf}
 use Rattle.job.specs.Reading.{readJob}
 use Rattle.job.specs.Troubles.{jobTrouble}
 use Rattle.reduction.specs.declared.Reduced.{Reduced}
 use Rattle.reduction.specs.declared.Which.{Which}
 use Rattle.reduction.specs.declared.Which.the-variants.{Run as RunAt, Nothing}
 
--- a run in range and certificates in range
-pub record Workable (r : Run) (held : List Certificate) (count : ℕ) : Type 0 where
+-- a run in range, and certificates that lie within their file and are in range
+pub record Workable (s : List ℕ) (count : ℕ) (r : Run) : Type 0 where
   pub run : RunOk r
-  pub few : count ≤ 64
-  pub certificates : CertificatesOk (heldCertificate held) count
+  pub within : certificatePlace count ≤ length s
+  pub certificates : CertificatesOk (certificateOf s) count
 
 -- a job read from its file without trouble, and one of its runs
 pub record ClearJob (s : List ℕ) (j : Job) : Type 0 where

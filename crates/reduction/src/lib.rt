@@ -7,12 +7,12 @@ use findings::Findings;
 use job::Job;
 use lines::Sheet;
 use lines::sheets;
-use records::Certificate;
 use records::Run;
 ghost use mathlib.Core.Path.{_≡_};
 ghost use Prim.Native.Nat.{_≤_};
 ghost use Rattle.job.specs.Reading.{readJob};
-ghost use Rattle.certs.specs.Choosing.{certificateOf, chosenFor};
+ghost use Rattle.parts.specs.Values.{certificateOf};
+ghost use Rattle.certs.specs.Choosing.{chosenFor};
 ghost use Rattle.reduction.specs.Reducing.{Workable, ClearJob, ClearRun, worked, runNamed, reducedRun};
 
 // A run's number, whether it stands, its sheet and its findings.
@@ -29,12 +29,12 @@ pub enum Which {
     Nothing,
 }
 
-// A run worked with the certificates of its job.
-fn work(run: Run, held: [Certificate; 64], count: usize) -> Reduced
-    requires { ⌜ Workable run held count ⌝ }
-    ensures { λ r. ⌜ r ≡ worked run (chosenFor (certificateOf held) count run) ⌝ }
+// A run worked with the first `count` certificates of its file.
+fn work(s: &[u8], count: usize, run: Run) -> Reduced
+    requires { ⌜ Workable (now s) count run ⌝ }
+    ensures { λ r. ⌜ r ≡ worked run (chosenFor (certificateOf (now (s .entry))) count run) ⌝ }
 {
-    let chosen = certs::choose_all(held, count, run);
+    let chosen = certs::choose_all(s, count, run);
     let y = factor::factor_of(chosen);
     let cp = factor::coefficient_of(chosen);
     let nozzle = factor::diameters_of(chosen);
@@ -54,8 +54,7 @@ pub fn reduce(s: &[u8], job: Job, k: usize) -> Reduced
     ensures { λ r. ⌜ r ≡ reducedRun (now (s .entry)) k ⌝ }
 {
     let starts = job.starts;
-    let held = job.held;
-    work(parts::run(s, starts[k]), held, job.certificates)
+    work(s, job.certificates, parts::run(s, starts[k]))
 }
 
 // The run of that number in a job without trouble. Numbers rise, so there is at most one.

@@ -30,7 +30,7 @@ unfolding u16At
 one-run = refl
 
 run-ok : RunOk workedRun
-run-ok = subst RunOk (worked .1) (clear-run workedJob read 0 (omega (arith, one-run)))
+run-ok = subst RunOk (worked .2) (clear-run workedJob read 0 (omega (arith, one-run)))
 
 known : (least greatest n : ℕ) → least ≤ n → n ≤ greatest → Between least greatest (Known n)
 known least greatest n above below =

@@ -4,26 +4,24 @@ use mathlib.Core.Path.{_≡_}
 use mathlib.Core.Logic.{⊎-elim}
 use native.Mathlib.Omega.{arith}
 use borrow.Author.Needs.{needs}
-use Rattle.certs.specs.Choosing.{chosen, certificateOf}
+use Rattle.parts.specs.Values.{certificateOf}
+use Rattle.certs.specs.Choosing.{chosen}
 use Rattle.certs.proofs.Choosing.{chosen-none, chosen-nearer, chosen-passed}
 use Rattle.certs.proofs.choose.Statement.{statement}
 use Rattle.certs.proofs.choose.Tie as tie
 
 abbrev Inv-loop : tie.InvT-loop
-Inv-loop count kind identity day after held best₀ i₀ best i =
-    (i ≤ count) × (best ≡ chosen after kind identity day (certificateOf held) i)
+Inv-loop s count kind identity day after best₀ i₀ best i =
+    (i ≤ count) × (best ≡ chosen after kind identity day (certificateOf s) i)
 
 abbrev μ-loop : tie.MeasureT-loop
-μ-loop count kind identity day after held best₀ i₀ best i = count - i
+μ-loop s count kind identity day after best₀ i₀ best i = count - i
 
 loop-holds : tie.Need-loop-holds Inv-loop μ-loop
 loop-holds c = (omega arith, chosen-none _ _ _ _ _)
 
-mul-c : tie.Need-mul-c Inv-loop μ-loop
-mul-c c = search needs
-
-array-copy-out-c : tie.Need-array-copy-out-c Inv-loop μ-loop
-array-copy-out-c c = search needs
+nth-requires : tie.Need-nth-requires Inv-loop μ-loop
+nth-requires c κs = search needs
 
 is-eligible-requires : tie.Need-is-eligible-requires Inv-loop μ-loop
 is-eligible-requires c κs = search needs
@@ -39,17 +37,18 @@ loop-less c = omega arith
 
 loop-again : tie.Need-loop-again Inv-loop μ-loop
 loop-again c =
-    let inv = c .before .before .before .before .loop .inv in (
+    let inv = c .before .before .before .before .loop .inv in
+    let own = c .before .before .nth .ensures in (
       omega arith,
       ⊎-elim
-          (λ w. rw (w .2) (chosen-nearer _ _ _ _ _ _ (inv .1) (c .before .is-eligible .ensures) (w .0 .taken) (w .1 .ensures)))
-          (λ w. rw (w .1) (chosen-passed _ _ _ _ _ _ (inv .1) (c .before .is-eligible .ensures) (w .0 .left)))
+          (λ w. rw (w .2) (chosen-nearer _ _ _ _ _ _ (inv .1) own (c .before .is-eligible .ensures) (w .0 .taken) (w .1 .ensures)))
+          (λ w. rw (w .1) (chosen-passed _ _ _ _ _ _ (inv .1) own (c .before .is-eligible .ensures) (w .0 .left)))
           (c .if1 .came),
     )
 
 returns : tie.Need-returns Inv-loop μ-loop
 returns c =
-    let end : c .before .loop .i ≡ c .before .before .args .count = omega arith in
+    let end : c .before .loop .i ≡ c .before .before .before .args .count = omega arith in
     rw (← end) (c .before .loop .inv .1)
 
 pub choose-spec : {M : Type 1} → statement M
@@ -59,8 +58,7 @@ choose-spec =
     Inv-loop
     μ-loop
     loop-holds
-    mul-c
-    array-copy-out-c
+    nth-requires
     is-eligible-requires
     keep-nearer-requires
     add-i

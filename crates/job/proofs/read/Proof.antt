@@ -1,14 +1,18 @@
--- Header, certificates, runs: the first in trouble is the answer, and past them all the job is what was held.
+-- Header, certificates, runs: the first in trouble is the answer, and past them all the job is what was counted.
 use Prim.Native.Nat.{ℕ, _≤_}
 use mathlib.Core.Path.{sym, _∙_, ap, subst}
+use native.Mathlib.Omega.{arith}
 use borrow.Author.Needs.{needs}
+use lib.Dec.{lit≤}
+use lib.ListN.{length}
 use Rattle.fields.specs.declared.trouble.Trouble.the-variants.{Clear}
 use Rattle.fields.specs.Trouble.{first, upTo}
 use Rattle.fields.proofs.FirstTrouble.{first-met, first-passed}
 use Rattle.parts.specs.Arrays.{padded}
-use Rattle.job.specs.Places.{certificatePlace, certificateOf, runStart}
+use Rattle.parts.proofs.Layouts.{complete-at}
+use Rattle.parts.specs.Values.{certificatePlace}
+use Rattle.job.specs.Places.{runStart}
 use Rattle.job.specs.Troubles.{entryTrouble, runsTrouble, endTrouble, jobTrouble}
-use Rattle.job.specs.Reading.{noCertificate}
 use Rattle.job.proofs.WholeFile.{certificate-count, run-count, certificates-fit, refuses, accepts}
 use Rattle.job.proofs.read.Statement.{statement}
 use Rattle.job.proofs.read.Tie as tie
@@ -31,20 +35,24 @@ returns c =
     let told = c .before .enum-told2 .given .1 in
     refuses _ (c .refused .ensures) told (first-met _ (c .before .before .before .trouble .ensures) told)
 
+-- a header whose fields are clear is complete
+complete : (c : tie.After-enum-told) → 9 ≤ length (c .before .before .before .before .args .s .now)
+complete c = complete-at _ 0 9 _ (lit≤ tt) (sym (c .before .before .trouble .ensures) ∙ c .enum-told .given .1)
+
 u16-at-requires : tie.Need-u16-at-requires
-u16-at-requires c κs = search needs
+u16-at-requires c κs = omega (arith, complete c)
 
 cast-certificates : tie.Need-cast-certificates
 cast-certificates c = search needs
 
 u16-at-requires-2 : tie.Need-u16-at-requires-2
-u16-at-requires-2 c κs = search needs
+u16-at-requires-2 c κs = complete (c .before)
 
 cast-runs : tie.Need-cast-runs
 cast-runs c = search needs
 
-read-requires : tie.Need-read-requires
-read-requires c κs =
+troubles-requires : tie.Need-troubles-requires
+troubles-requires c κs =
     let header = c .before .before in
     subst (λ (n : ℕ). n ≤ 64) (sym (c .before .u16-at .ensures)) (certificate-count _ (sym (header .before .before .trouble .ensures) ∙ header .enum-told .given .1))
 
@@ -65,7 +73,7 @@ returns-2 c =
     let counts = certificates .before .before in
     let header = counts .before in
     let s = header .before .before .before .before .args .s .now in
-    let entries = certificates .read .ensures .trouble ∙ ap (upTo (entryTrouble s)) (counts .u16-at .ensures) in
+    let entries = certificates .troubles .ensures ∙ ap (upTo (entryTrouble s)) (counts .u16-at .ensures) in
     refuses s (c .refused2 .ensures) told
     (first-passed (header .before .before .trouble .ensures) (header .enum-told .given .1) (first-met _ entries told))
 
@@ -75,16 +83,16 @@ mul-first c = search needs
 add-first : tie.Need-add-first
 add-first c = search needs
 
-read-requires-2 : tie.Need-read-requires-2
+read-requires : tie.Need-read-requires
 unfolding runStart
-read-requires-2 c κs =
+read-requires c κs =
     let certificates = c .before .before in
     let runs = certificates .before in
     let count = runs .before in
     let header = count .before in
     let s = header .before .before .before .before .args .s .now in
     let own = sym (header .before .before .trouble .ensures) ∙ header .enum-told .given .1 in
-    let entries = sym (certificates .read .ensures .trouble) ∙ c .enum-told3 .given .1 in (
+    let entries = sym (certificates .troubles .ensures) ∙ c .enum-told3 .given .1 in (
       subst (λ (n : ℕ). n ≤ 16) (sym (runs .u16-at2 .ensures)) (run-count _ own),
       ap certificatePlace (count .u16-at .ensures),
       certificates-fit s _ own entries,
@@ -110,8 +118,8 @@ returns-3 c =
     let count = runs .before in
     let header = count .before in
     let s = header .before .before .before .before .args .s .now in
-    let entries = certificates .read .ensures .trouble ∙ ap (upTo (entryTrouble s)) (count .u16-at .ensures) in
-    let rest = walk .read2 .ensures .trouble ∙ ap (λ (n : ℕ). first (runsTrouble s n) (endTrouble s (runStart s n))) (runs .u16-at2 .ensures) in
+    let entries = certificates .troubles .ensures ∙ ap (upTo (entryTrouble s)) (count .u16-at .ensures) in
+    let rest = walk .read .ensures .trouble ∙ ap (λ (n : ℕ). first (runsTrouble s n) (endTrouble s (runStart s n))) (runs .u16-at2 .ensures) in
     refuses s (c .refused3 .ensures) told
     (first-passed (header .before .before .trouble .ensures) (header .enum-told .given .1)
     (first-passed entries (held .enum-told3 .given .1) rest))
@@ -119,7 +127,7 @@ returns-3 c =
 returns-4 : tie.Need-returns-4
 unfolding jobTrouble
 returns-4 c =
-    let done = c .before .before in
+    let done = c .before in
     let walk = done .before .before in
     let held = walk .before in
     let certificates = held .before .before in
@@ -127,12 +135,11 @@ returns-4 c =
     let count = runs .before in
     let header = count .before in
     let s = header .before .before .before .before .args .s .now in
-    let entries = certificates .read .ensures .trouble ∙ ap (upTo (entryTrouble s)) (count .u16-at .ensures) in
-    let rest = walk .read2 .ensures .trouble ∙ ap (λ (n : ℕ). first (runsTrouble s n) (endTrouble s (runStart s n))) (runs .u16-at2 .ensures) in
-    let all = certificates .read .ensures .all (held .enum-told3 .given .1) ∙ ap (padded 64 noCertificate (certificateOf s)) (count .u16-at .ensures) in
-    let starts = walk .read2 .ensures .starts (done .enum-told5 .given .1) ∙ ap (padded 16 0 (runStart s)) (runs .u16-at2 .ensures) in
+    let entries = certificates .troubles .ensures ∙ ap (upTo (entryTrouble s)) (count .u16-at .ensures) in
+    let rest = walk .read .ensures .trouble ∙ ap (λ (n : ℕ). first (runsTrouble s n) (endTrouble s (runStart s n))) (runs .u16-at2 .ensures) in
+    let starts = walk .read .ensures .starts (done .enum-told5 .given .1) ∙ ap (padded 16 0 (runStart s)) (runs .u16-at2 .ensures) in
     accepts s
-    (λ i. record { trouble = Clear; certificates = count .u16-at .ensures i; runs = runs .u16-at2 .ensures i; held = all i; starts = starts i })
+    (λ i. record { trouble = Clear; certificates = count .u16-at .ensures i; runs = runs .u16-at2 .ensures i; starts = starts i })
     (sym (done .enum-told5 .given .1)
     ∙ first-passed (header .before .before .trouble .ensures) (header .enum-told .given .1)
     (first-passed entries (held .enum-told3 .given .1) rest))
@@ -150,14 +157,14 @@ read-spec =
     cast-certificates
     u16-at-requires-2
     cast-runs
-    read-requires
+    troubles-requires
     enum-told-3
     enum-told-4
     refused-requires-2
     returns-2
     mul-first
     add-first
-    read-requires-2
+    read-requires
     enum-told-5
     enum-told-6
     refused-requires-3

@@ -6,7 +6,7 @@ use lib.ListN.{drop}
 use Rattle.records.specs.declared.Counts.{Counts}
 use Rattle.records.specs.Records.{noPoint, noSegment, noWeighing}
 use Rattle.parts.specs.Values.{point, segment, weighing, header, headerAt, pointPlace, segmentPlace, runAt}
-use Rattle.parts.proofs.Places.{further, filled}
+use Rattle.parts.proofs.Places.{further, filled, header-left, points-few, segments-few, weighings-few, points-left, segments-left, weighings-left}
 use Rattle.parts.proofs.SignedFields.{read-back}
 use Rattle.parts.proofs.run.Statement.{statement}
 use Rattle.parts.proofs.run.Tie as tie
@@ -15,7 +15,7 @@ tail-requires : tie.Need-tail-requires
 tail-requires c κs = search needs
 
 header-requires : tie.Need-header-requires
-header-requires c κs = search needs
+header-requires c κs = header-left _ _ (c .before .before .pre) (c .tail .ensures)
 
 cast-points : tie.Need-cast-points
 cast-points c = search needs
@@ -41,14 +41,45 @@ mul-tail-2 c = search needs
 tail-requires-4 : tie.Need-tail-requires-4
 tail-requires-4 c κs = search needs
 
+-- the counts that were read are those of the file's header
+counts-read : (c : tie.After-header) → c .header .result .counts ≡ headerAt (c .before .before .before .args .s .now) (c .before .before .before .args .start) .counts
+counts-read c = λ i. (c .header .ensures ∙ ap header (c .before .tail .ensures)) i .counts
+
 points-requires : tie.Need-points-requires
-points-requires c κs = search needs
+points-requires c κs =
+    let at-points = c .before .before .before .before .before .before .before in
+    let read = at-points .before .before .before .before .before in
+    let start = read .before .before .before in
+    let s = start .args .s .now in
+    let a = start .args .start in
+    let rest1 = further s a 64 (at-points .tail2 .ensures) (read .before .tail .ensures) in
+    (points-few s a (start .pre) (counts-read read), points-left s a (start .pre) (counts-read read) rest1)
 
 segments-requires : tie.Need-segments-requires
-segments-requires c κs = search needs
+segments-requires c κs =
+    let at-segments = c .before .before .before .before .before .before .before in
+    let at-points = at-segments .before in
+    let read = at-points .before .before .before .before .before in
+    let start = read .before .before .before in
+    let s = start .args .s .now in
+    let a = start .args .start in
+    let rest1 = further s a 64 (at-points .tail2 .ensures) (read .before .tail .ensures) in
+    let rest2 = further s (a + 64) _ (at-segments .tail3 .ensures) rest1 in
+    (segments-few s a (start .pre) (counts-read read), segments-left s a (start .pre) (counts-read read) rest2)
 
 weighings-requires : tie.Need-weighings-requires
-weighings-requires c κs = search needs
+weighings-requires c κs =
+    let at-weighings = c .before .before .before .before .before .before .before in
+    let at-segments = at-weighings .before in
+    let at-points = at-segments .before in
+    let read = at-points .before .before .before .before .before in
+    let start = read .before .before .before in
+    let s = start .args .s .now in
+    let a = start .args .start in
+    let rest1 = further s a 64 (at-points .tail2 .ensures) (read .before .tail .ensures) in
+    let rest2 = further s (a + 64) _ (at-segments .tail3 .ensures) rest1 in
+    let rest3 = further s (pointPlace a (read .header .result .counts .points)) _ (at-weighings .tail4 .ensures) rest2 in
+    (weighings-few s a (start .pre) (counts-read read), weighings-left s a (start .pre) (counts-read read) rest3)
 
 returns : tie.Need-returns
 unfolding runAt
@@ -64,7 +95,7 @@ returns c =
     let s = start .args .s .now in
     let a = start .args .start in
     let h = read .header .ensures ∙ ap header (read .before .tail .ensures) in
-    let n : read .header .result .counts ≡ headerAt s a .counts = λ i. h i .counts in
+    let n = counts-read read in
     let rest1 = further s a 64 (at-points .tail2 .ensures) (read .before .tail .ensures) in
     let rest2 = further s (a + 64) _ (at-segments .tail3 .ensures) rest1 in
     let rest3 = further s (pointPlace a (read .header .result .counts .points)) _ (at-weighings .tail4 .ensures) rest2 in

@@ -5,7 +5,7 @@ use mathlib.Core.Logic.{inl, inr, ⊎-elim}
 use mathlib.Core.Path.{_≡_, _∙_, ap}
 use Rattle.fields.specs.Numbers.{u16At}
 use Rattle.reduction.specs.Reducing.{runNamed}
-use Rattle.reduction.proofs.ClearJobs.{few-runs, count-of-runs, start-of, Sought, sought-none, sought-more}
+use Rattle.reduction.proofs.ClearJobs.{few-runs, count-of-runs, start-of, number-left, Sought, sought-none, sought-more}
 use native.Mathlib.Nat.{le-antisymm}
 use Prim.Native.Nat.{_-_, _≤_}
 use Rattle.reduction.proofs.find_run.Statement.{statement}
@@ -30,7 +30,7 @@ tail-requires : tie.Need-tail-requires Inv-loop μ-loop
 tail-requires c κs = search needs
 
 u16-at-requires : tie.Need-u16-at-requires Inv-loop μ-loop
-u16-at-requires c κs = search needs
+u16-at-requires c κs = number-left _ _ (c .before .before .before .before .before .pre) _ (c .before .loop-test .taken) (c .tail .ensures)
 
 add-k : tie.Need-add-k Inv-loop μ-loop
 add-k c = omega (arith, c .before .before .before .loop-test .taken, few-runs _ _ (c .before .before .before .before .before .before .before .pre))

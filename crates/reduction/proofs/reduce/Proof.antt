@@ -3,13 +3,14 @@ use borrow.Author.Needs.{needs}
 use native.Mathlib.Omega.{arith}
 use mathlib.Core.Path.{_∙_, ap, ap₂}
 use Rattle.reduction.specs.Reducing.{reducedRun, chosenIn, worked}
-use Rattle.reduction.proofs.ClearJobs.{few-runs, count-of-runs, count-of-certificates, start-of, held-of, workable, chosenFor-ext}
+use Rattle.reduction.proofs.ClearJobs.{few-runs, count-of-runs, count-of-certificates, start-of, lies-within, workable}
 use Prim.Native.Nat.{ℕ}
 use mathlib.Core.Path.{_≡_}
 use mathlib.Core.List.{List}
 use lib.ListN.{getD}
 use Rattle.records.specs.declared.Run.{Run}
-use Rattle.certs.specs.Choosing.{certificateOf, chosenFor}
+use Rattle.parts.specs.Values.{certificateOf}
+use Rattle.certs.specs.Choosing.{chosenFor}
 use Rattle.job.specs.declared.Job.{Job}
 use Rattle.job.specs.Places.{runOf}
 use Rattle.parts.specs.Values.{runAt}
@@ -21,30 +22,28 @@ use Rattle.reduction.proofs.reduce.Tie as tie
 this-run : {s : List ℕ} {j : Job} {k : ℕ} {r : Run} → ClearRun s j k → r ≡ runAt s (getD (j .starts) k 0) → r ≡ runOf s k
 this-run {s} {j} {k} ok e = e ∙ ap (runAt s) (start-of s j (ok .job) k (ok .inside))
 
-ready : {s : List ℕ} {j : Job} {k : ℕ} {r : Run} → ClearRun s j k → r ≡ runAt s (getD (j .starts) k 0) → Workable r (j .held) (j .certificates)
+ready : {s : List ℕ} {j : Job} {k : ℕ} {r : Run} → ClearRun s j k → r ≡ runAt s (getD (j .starts) k 0) → Workable s (j .certificates) r
 ready {s} {j} {k} ok e = rw (this-run ok e) (workable s j (ok .job) k (ok .inside))
 
-is-reduced : {s : List ℕ} {j : Job} {k : ℕ} {r : Run} {done : Reduced} → ClearRun s j k → r ≡ runAt s (getD (j .starts) k 0) → done ≡ worked r (chosenFor (certificateOf (j .held)) (j .certificates) r) → done ≡ reducedRun s k
+is-reduced : {s : List ℕ} {j : Job} {k : ℕ} {r : Run} {done : Reduced} → ClearRun s j k → r ≡ runAt s (getD (j .starts) k 0) → done ≡ worked r (chosenFor (certificateOf s) (j .certificates) r) → done ≡ reducedRun s k
 unfolding reducedRun chosenIn
 is-reduced {s} {j} {k} ok e ed =
-    ed
-    ∙ rw (this-run ok e, count-of-certificates s j (ok .job))
-    (ap (worked (runOf s k)) (chosenFor-ext _ _ _ _ (held-of s j (ok .job))))
+    ed ∙ rw (this-run ok e, count-of-certificates s j (ok .job))
 
 mul-run : tie.Need-mul-run
-mul-run c = omega (arith, few-runs _ _ (c .before .before .before .pre .job), count-of-runs _ _ (c .before .before .before .pre .job), c .before .before .before .pre .inside)
+mul-run c = omega (arith, few-runs _ _ (c .before .before .pre .job), count-of-runs _ _ (c .before .before .pre .job), c .before .before .pre .inside)
 
 array-read-run : tie.Need-array-read-run
-array-read-run c = omega (arith, few-runs _ _ (c .before .before .before .pre .job), count-of-runs _ _ (c .before .before .before .pre .job), c .before .before .before .pre .inside)
+array-read-run c = omega (arith, few-runs _ _ (c .before .before .pre .job), count-of-runs _ _ (c .before .before .pre .job), c .before .before .pre .inside)
 
 run-requires : tie.Need-run-requires
-run-requires c κs = search needs
+run-requires c κs = lies-within _ _ (c .before .before .pre .job) _ (c .before .before .pre .inside)
 
 work-requires : tie.Need-work-requires
-work-requires c κs = ready (c .before .before .before .before .pre) (c .run .ensures)
+work-requires c κs = ready (c .before .before .before .pre) (c .run .ensures)
 
 returns : tie.Need-returns
-returns c = is-reduced (c .before .before .before .before .before .pre) (c .before .run .ensures) (c .work .ensures)
+returns c = is-reduced (c .before .before .before .before .pre) (c .before .run .ensures) (c .work .ensures)
 
 pub reduce-spec : {M : Type 1} → statement M
 reduce-spec = tie.close (tie.spec mul-run array-read-run run-requires work-requires returns)

@@ -23,16 +23,16 @@ diameters-of-requires : tie.Need-diameters-of-requires
 diameters-of-requires c κs = search needs
 
 lines-requires : tie.Need-lines-requires
-lines-requires c κs = lines-workable _ _ _ (c .before .before .before .before .pre) (c .before .before .before .choose-all .ensures) (c .before .before .factor-of .ensures) (c .before .coefficient-of .ensures) (c .diameters-of .ensures)
+lines-requires c κs = lines-workable _ _ _ (c .before .before .before .before .before .pre) (c .before .before .before .choose-all .ensures) (c .before .before .factor-of .ensures) (c .before .coefficient-of .ensures) (c .diameters-of .ensures)
 
 find-requires : tie.Need-find-requires
 find-requires c κs =
     record {
-      ok = c .before .before .before .before .before .pre .run;
+      ok = c .before .before .before .before .before .before .pre .run;
       lines = lines-worked _ _ (c .before .before .before .factor-of .ensures) (c .before .before .coefficient-of .ensures) (c .before .diameters-of .ensures) (c .lines .ensures .0);
     }
 
-worked-lines : (c : tie.After-find) → Worked (c .before .before .before .before .before .before .args .run) (c .before .before .before .before .before .choose-all .result) (c .before .lines .result)
+worked-lines : (c : tie.After-find) → Worked (c .before .before .before .before .before .before .before .args .run) (c .before .before .before .before .before .choose-all .result) (c .before .lines .result)
 worked-lines c = find-requires (c .before) (tt {0})
 
 found-few : {r : Run} {ch : Chosen} {l : Lines} → Worked r ch l → listed (findings r ch l) .count ≤ 98

@@ -2,7 +2,7 @@
 use mathlib.Core.Path.{_∙_, sym}
 use native.Mathlib.Nat.{le-of-lt, le-refl}
 use lib.ListN.{length, drop-of-length-le}
-use Rattle.fields.proofs.PastTheEnd.{take-rest}
+use Rattle.fields.proofs.Tails.{take-rest}
 use borrow.Author.Needs.{needs}
 use Rattle.fields.proofs.numbers.tail.Statement.{statement}
 use Rattle.fields.proofs.numbers.tail.Tie as tie

@@ -1,8 +1,7 @@
--- `u16_at` is `u16At`: two bytes, and 0 past the end.
+-- `u16_at` is `u16At`: two bytes.
 use mathlib.Core.Path.{ap₂}
 use Prim.Native.Nat.{ℕ, _+_, _*_}
 use Rattle.fields.specs.Numbers.{u16At}
-use Rattle.fields.proofs.PastTheEnd.{u16-past}
 use borrow.Author.Needs.{needs}
 use Rattle.fields.proofs.numbers.u16_at.Statement.{statement}
 use Rattle.fields.proofs.numbers.u16_at.Tie as tie
@@ -32,9 +31,6 @@ returns : tie.Need-returns
 unfolding u16At
 returns c = ap₂ (λ (low high : ℕ). low + 256 * high) (c .before .byte .ensures) (c .byte2 .ensures)
 
-returns-2 : tie.Need-returns-2
-returns-2 c = let a = c .before .before .args in u16-past (a .s .now) (a .at) (c .if1 .left)
-
 pub u16-at-spec : {M : Type 1} → statement M
 u16-at-spec =
     tie.close
@@ -46,5 +42,4 @@ u16-at-spec =
     cast-high
     mul-result
     add-result
-    returns
-    returns-2)
+    returns)

@@ -1,8 +1,7 @@
--- `u32_at` is `u32At`: two pairs of bytes, and 0 past the end.
+-- `u32_at` is `u32At`: two pairs of bytes.
 use mathlib.Core.Path.{ap₂}
 use Prim.Native.Nat.{ℕ, _+_, _*_}
 use Rattle.fields.specs.Numbers.{u32At}
-use Rattle.fields.proofs.PastTheEnd.{u32-past}
 use borrow.Author.Needs.{needs}
 use Rattle.fields.proofs.numbers.u32_at.Statement.{statement}
 use Rattle.fields.proofs.numbers.u32_at.Tie as tie
@@ -32,9 +31,6 @@ returns : tie.Need-returns
 unfolding u32At
 returns c = ap₂ (λ (low high : ℕ). low + 65536 * high) (c .before .u16-at .ensures) (c .u16-at2 .ensures)
 
-returns-2 : tie.Need-returns-2
-returns-2 c = let a = c .before .before .args in u32-past (a .s .now) (a .at) (c .if1 .left)
-
 pub u32-at-spec : {M : Type 1} → statement M
 u32-at-spec =
     tie.close
@@ -46,5 +42,4 @@ u32-at-spec =
     cast-high
     mul-result
     add-result
-    returns
-    returns-2)
+    returns)

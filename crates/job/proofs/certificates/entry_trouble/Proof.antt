@@ -1,18 +1,16 @@
--- The fields, and then the look back, which reads the certificates that the file holds.
-use mathlib.Core.Path.{_∙_, ap, ap₂}
+-- The fields, and then the look back, which reads the earlier certificates: they are as complete as this one.
+use Prim.Native.Nat.{_+_, _≤_}
+use mathlib.Core.Path.{sym, _∙_, ap}
 use mathlib.Core.Bool.{not}
-use mathlib.Core.List.{List}
-use native.Mathlib.Nat.{le-of-lt}
+use native.Mathlib.Omega.{arith}
 use borrow.Author.Needs.{needs}
-use lib.ListN.{getD}
-use Rattle.fields.proofs.FirstTrouble.{step}
+use lib.Dec.{lit≤}
+use lib.ListN.{length}
+use Rattle.fields.proofs.FirstTrouble.{first-met, step}
 use Rattle.records.specs.declared.Certificate.{Certificate}
-use Rattle.parts.specs.Values.{certificate}
-use Rattle.parts.proofs.Arrays.{pad-at}
-use Rattle.job.specs.Places.{certificatePlace, certificateOf}
-use Rattle.job.specs.Troubles.{sameCertificate}
-use Rattle.job.specs.Reading.{noCertificate}
-use Rattle.job.proofs.LookBack.{any-ext}
+use Rattle.parts.specs.Values.{certificatePlace, certificateOf}
+use Rattle.parts.proofs.Layouts.{complete-at}
+use Rattle.job.specs.Troubles.{sameCertificate, anyTo}
 use Rattle.job.proofs.certificates.entry_trouble.Statement.{statement}
 use Rattle.job.proofs.certificates.entry_trouble.Tie as tie
 
@@ -25,31 +23,37 @@ add-at c = search needs
 trouble-requires : tie.Need-trouble-requires
 trouble-requires c κs = search needs
 
-tail-requires : tie.Need-tail-requires
-tail-requires c κs = search needs
+enum-told : tie.Need-enum-told
+enum-told c = search needs
 
-certificate-requires : tie.Need-certificate-requires
-certificate-requires c κs = search needs
+enum-told-2 : tie.Need-enum-told-2
+enum-told-2 c = search needs
+
+returns : tie.Need-returns
+returns c = first-met _ (c .before .before .trouble .ensures) (c .enum-told2 .given .1)
+
+-- a certificate whose fields are clear is complete
+complete :
+    (c : tie.After-enum-told)
+    → certificatePlace (c .before .before .before .before .args .k) + 16 ≤ length (c .before .before .before .before .args .s .now)
+complete c = complete-at _ _ 16 _ (lit≤ tt) (sym (c .before .before .trouble .ensures) ∙ c .enum-told .given .1)
+
+nth-requires : tie.Need-nth-requires
+nth-requires c κs = complete c
 
 stands-requires : tie.Need-stands-requires
-stands-requires c κs = search needs
+stands-requires c κs = omega (arith, complete (c .before))
 
 unless-requires : tie.Need-unless-requires
 unless-requires c κs = search needs
 
-returns : tie.Need-returns
-returns c =
-    let read = c .before .before in
-    let start = read .before .before .before .before in
-    let s = start .args .s .now in
-    let k = start .args .k in
-    let own = read .certificate .ensures ∙ ap certificate (read .before .tail .ensures) in
-    let earlier = any-ext _ (λ j. sameCertificate (certificateOf s j) (certificateOf s k)) k
-    (λ j h.
-    ap₂ sameCertificate
-    (ap (λ (all : List Certificate). getD all j noCertificate) (start .pre .1) ∙ pad-at 64 noCertificate (certificateOf s) k j h (le-of-lt (start .pre .0)))
-    own) in
-    step 6 (certificatePlace k) (c .unless .ensures) (read .before .before .trouble .ensures) (ap not (c .before .stands .ensures ∙ earlier))
+returns-2 : tie.Need-returns-2
+returns-2 c =
+    let look = c .before in
+    let met = look .before .before .before .before .trouble in
+    let a = look .before .before .before .before .before .before .args in
+    let back = ap (λ (own : Certificate). anyTo (λ j. sameCertificate (certificateOf (a .s .now) j) own) (a .k)) (look .before .nth .ensures) in
+    step 6 (certificatePlace (a .k)) (c .unless .ensures) (met .ensures) (ap not (look .stands .ensures ∙ back))
 
 pub entry-trouble-spec : {M : Type 1} → statement M
 entry-trouble-spec =
@@ -58,8 +62,10 @@ entry-trouble-spec =
     mul-at
     add-at
     trouble-requires
-    tail-requires
-    certificate-requires
+    enum-told
+    enum-told-2
+    returns
+    nth-requires
     stands-requires
     unless-requires
-    returns)
+    returns-2)

@@ -1,35 +1,38 @@
 -- The loop keeps that none of those passed is the same.
 use Prim.Native.Nat.{_-_, _≤_}
-use mathlib.Core.Path.{_≡_}
+use mathlib.Core.Path.{_≡_, _∙_, ap}
 use mathlib.Core.Bool.{false}
 use borrow.Author.Needs.{needs}
-use lib.ListN.{getD}
 use Rattle.job.specs.Troubles.{sameCertificate, anyTo}
-use Rattle.job.specs.Reading.{noCertificate}
+use Rattle.records.specs.declared.Certificate.{Certificate}
+use Rattle.parts.specs.Values.{certificateOf}
 use Rattle.job.proofs.LookBack.{any-none, any-goes-on, any-stops, any-ends}
 use Rattle.job.proofs.certificates.stands.Statement.{statement}
 use Rattle.job.proofs.certificates.stands.Tie as tie
 
 abbrev Inv-loop : tie.InvT-loop
-Inv-loop n c all j₀ j = (j ≤ n) × (anyTo (λ i. sameCertificate (getD all i noCertificate) c) j ≡ false)
+Inv-loop s n c j₀ j = (j ≤ n) × (anyTo (λ i. sameCertificate (certificateOf s i) c) j ≡ false)
 
 abbrev μ-loop : tie.MeasureT-loop
-μ-loop n c all j₀ j = n - j
+μ-loop s n c j₀ j = n - j
 
 loop-holds : tie.Need-loop-holds Inv-loop μ-loop
 loop-holds c = (search needs, any-none _)
 
-mul-same : tie.Need-mul-same Inv-loop μ-loop
-mul-same c = search needs
-
-array-copy-out-same : tie.Need-array-copy-out-same Inv-loop μ-loop
-array-copy-out-same c = search needs
+nth-requires : tie.Need-nth-requires Inv-loop μ-loop
+nth-requires c κs = search needs
 
 same-requires : tie.Need-same-requires Inv-loop μ-loop
 same-requires c κs = search needs
 
+-- what was compared is the certificate at its place
+own :
+    (c : tie.After-same Inv-loop μ-loop)
+    → c .same .result ≡ sameCertificate (certificateOf (c .before .before .before .before .before .args .s .now) (c .before .before .before .loop .j)) (c .before .before .before .before .before .args .c)
+own c = c .same .ensures ∙ ap (λ (a : Certificate). sameCertificate a (c .before .before .before .before .before .args .c)) (c .before .nth .ensures)
+
 returns : tie.Need-returns Inv-loop μ-loop
-returns c = any-stops _ _ _ (c .before .same .ensures) (c .if1 .taken) (c .before .before .before .loop-test .taken)
+returns c = any-stops _ _ _ (own (c .before)) (c .if1 .taken) (c .before .before .before .loop-test .taken)
 
 add-j : tie.Need-add-j Inv-loop μ-loop
 add-j c = search needs
@@ -40,7 +43,7 @@ loop-less c = search needs
 loop-again : tie.Need-loop-again Inv-loop μ-loop
 loop-again c =
     let turn = c .before .before .before .before .loop .inv in
-    (search needs, any-goes-on _ _ (turn .1) (c .before .same .ensures) (c .if1 .left))
+    (search needs, any-goes-on _ _ (turn .1) (own (c .before)) (c .if1 .left))
 
 returns-2 : tie.Need-returns-2 Inv-loop μ-loop
 returns-2 c =
@@ -54,8 +57,7 @@ stands-spec =
     Inv-loop
     μ-loop
     loop-holds
-    mul-same
-    array-copy-out-same
+    nth-requires
     same-requires
     returns
     add-j

@@ -1,14 +1,16 @@
 -- Both sums are those of the file, and each early answer is the first test that fails.
-use Prim.Native.Nat.{ℕ, _+_, _*_}
+use Prim.Native.Nat.{ℕ, _+_, _*_, _≤_}
 use mathlib.Core.Path.{_∙_, ap, ap₂}
 use mathlib.Core.List.{List}
 use borrow.Author.Tests.{not-true, not-false}
 use borrow.Author.Needs.{needs}
+use native.Mathlib.Omega.{arith}
 use lib.Dec.{eqb}
+use lib.ListN.{length}
 use Rattle.fields.proofs.EarlyAnswers.{fails, passes}
 use Rattle.readings.specs.Ranges.{totalSeconds}
 use Rattle.parts.specs.Values.{point, segment}
-use Rattle.parts.proofs.Places.{summed}
+use Rattle.parts.proofs.Places.{enough, summed}
 use Rattle.job.proofs.runs.good_seconds.Statement.{statement}
 use Rattle.job.proofs.runs.good_seconds.Tie as tie
 
@@ -25,7 +27,10 @@ tail-requires : tie.Need-tail-requires
 tail-requires c κs = search needs
 
 seconds-requires : tie.Need-seconds-requires
-seconds-requires c κs = search needs
+seconds-requires c κs =
+    let a = c .before .before .before .before .args in
+    let room : 12 * a .n .points ≤ length (c .tail .result .now) = enough (a .s .now) (a .start + 64) (12 * a .n .points) (c .tail .ensures) (omega (arith, c .before .before .before .before .pre)) in
+    (search needs, room)
 
 mul-tail : tie.Need-mul-tail
 mul-tail c = search needs
@@ -37,7 +42,11 @@ tail-requires-2 : tie.Need-tail-requires-2
 tail-requires-2 c κs = search needs
 
 seconds-requires-2 : tie.Need-seconds-requires-2
-seconds-requires-2 c κs = search needs
+seconds-requires-2 c κs =
+    let start = c .before .before .before .before .before .before in
+    let a = start .args in
+    let room : 4 * a .n .segments ≤ length (c .tail2 .result .now) = enough (a .s .now) (a .start + 64 + 12 * a .n .points) (4 * a .n .segments) (c .tail2 .ensures) (start .pre) in
+    (search needs, room)
 
 check-requires : tie.Need-check-requires
 check-requires c κs = search needs

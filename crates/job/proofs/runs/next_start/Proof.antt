@@ -2,6 +2,7 @@
 use mathlib.Core.Path.{_∙_, ap}
 use borrow.Author.Needs.{needs}
 use Rattle.parts.specs.Values.{counts, runEnd}
+use Rattle.parts.proofs.Places.{enough}
 use Rattle.job.proofs.runs.next_start.Statement.{statement}
 use Rattle.job.proofs.runs.next_start.Tie as tie
 
@@ -9,7 +10,9 @@ tail-requires : tie.Need-tail-requires
 tail-requires c κs = search needs
 
 counts-requires : tie.Need-counts-requires
-counts-requires c κs = search needs
+counts-requires c κs =
+    let start = c .before .before in
+    enough (start .args .s .now) (start .args .start) 64 (c .tail .ensures) (start .pre)
 
 add-at-segments : tie.Need-add-at-segments
 add-at-segments c = search needs

@@ -1,8 +1,11 @@
 -- Each list in turn, and then the seconds; a list that is clear ends within the file.
+use Prim.Native.Nat.{_≤_}
 use mathlib.Core.Path.{_∙_, sym}
 use borrow.Author.Needs.{needs}
 use lib.Dec.{lit≤}
+use lib.ListN.{length}
 use Rattle.fields.proofs.FirstTrouble.{first-met, first-passed, step}
+use Rattle.parts.specs.Values.{segmentPlace}
 use Rattle.parts.proofs.Layouts.{row-fits}
 use Rattle.job.specs.Troubles.{partsTrouble}
 use Rattle.job.proofs.runs.parts_trouble.Statement.{statement}
@@ -63,16 +66,20 @@ mul-at-weighings c = search needs
 add-at-weighings : tie.Need-add-at-weighings
 add-at-weighings c = search needs
 
-troubles-requires-3 : tie.Need-troubles-requires-3
-troubles-requires-3 c κs =
+-- the segments end within the file
+segments-end : (c : tie.After-enum-told3) → segmentPlace (c .before .before .before .before .before .before .before .before .before .before .args .start) (c .before .before .before .before .before .before .before .before .before .before .args .n) (c .before .before .before .before .before .before .before .before .before .before .args .n .segments) ≤ length (c .before .before .before .before .before .before .before .before .before .before .args .s .now)
+segments-end c =
     let segments = c .before .before in
     let points = segments .before .before .before in
     let start = points .before .before .before .before .before in
     let low = row-fits _ _ 12 _ _ (lit≤ tt) (start .pre) (sym (points .troubles .ensures) ∙ segments .before .enum-told .given .1) in
-    (row-fits _ _ 4 _ _ (lit≤ tt) low (sym (segments .troubles2 .ensures) ∙ c .enum-told3 .given .1), search needs)
+    row-fits _ _ 4 _ _ (lit≤ tt) low (sym (segments .troubles2 .ensures) ∙ c .enum-told3 .given .1)
+
+troubles-requires-3 : tie.Need-troubles-requires-3
+troubles-requires-3 c κs = (segments-end c, search needs)
 
 good-seconds-requires : tie.Need-good-seconds-requires
-good-seconds-requires c κs = search needs
+good-seconds-requires c κs = segments-end (c .before)
 
 unless-requires : tie.Need-unless-requires
 unless-requires c κs = search needs

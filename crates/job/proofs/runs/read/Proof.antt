@@ -1,8 +1,9 @@
 -- The loop keeps where it stands, the number before, and that the runs passed are clear and noted; it stops at the first that is not.
-use Prim.Native.Nat.{ℕ, _-_, _≤_}
+use Prim.Native.Nat.{ℕ, _+_, _-_, _≤_}
 use mathlib.Core.Path.{_≡_, refl, sym, _∙_, ap, ap₂, subst}
 use mathlib.Core.List.{List}
 use native.Mathlib.Nat.{le-antisymm}
+use native.Mathlib.Omega.{arith}
 use borrow.Author.Needs.{needs}
 use lib.ListN.{length, drop}
 use Rattle.fields.specs.declared.trouble.Trouble.the-variants.{Clear}
@@ -11,9 +12,10 @@ use Rattle.fields.specs.Trouble.{first}
 use Rattle.fields.proofs.FirstTrouble.{clear-not-at, first-met, first-passed, none-clear, goes-on, stops, ends}
 use Rattle.parts.specs.Arrays.{padded}
 use Rattle.parts.proofs.Arrays.{pad-none, pad-more}
+use Rattle.parts.proofs.Places.{enough}
 use Rattle.job.specs.Places.{nextStart, runStart}
 use Rattle.job.specs.Troubles.{runTrouble, numberBefore, runsTrouble, endTrouble}
-use Rattle.job.proofs.ClearRuns.{run-fits, start-more, number-none, number-more}
+use Rattle.job.proofs.ClearRuns.{header-fits, run-fits, start-more, number-none, number-more}
 use Rattle.job.proofs.runs.read.Statement.{statement}
 use Rattle.job.proofs.runs.read.Tie as tie
 
@@ -45,6 +47,12 @@ returns c =
     let own = c .before .before .run-trouble .ensures ∙ ap₂ (runTrouble _) (passed .2) (passed .3) in
     record { trouble = first-met _ (stops _ _ _ (passed .4) own told (turn .loop-test .taken)) told; starts = λ e. clear-not-at e told }
 
+-- the header of a clear run is complete
+complete :
+    (c : tie.After-enum-told Inv-loop μ-loop)
+    → c .before .before .before .before .loop .at + 64 ≤ length (c .before .before .before .before .before .before .args .s .now)
+complete c = header-fits _ _ _ (sym (c .before .before .run-trouble .ensures) ∙ c .enum-told .given .1)
+
 mul-starts : tie.Need-mul-starts Inv-loop μ-loop
 mul-starts c = search needs
 
@@ -55,10 +63,12 @@ tail-requires : tie.Need-tail-requires Inv-loop μ-loop
 tail-requires c κs = search needs
 
 u16-at-requires : tie.Need-u16-at-requires Inv-loop μ-loop
-u16-at-requires c κs = search needs
+u16-at-requires c κs =
+    let turn = c .before .before .before .before .before in
+    enough (turn .before .before .args .s .now) (turn .loop .at) 2 (c .tail .ensures) (omega (arith, complete (c .before)))
 
 next-start-requires : tie.Need-next-start-requires Inv-loop μ-loop
-next-start-requires c κs = search needs
+next-start-requires c κs = complete (c .before .before)
 
 add-k : tie.Need-add-k Inv-loop μ-loop
 add-k c = search needs

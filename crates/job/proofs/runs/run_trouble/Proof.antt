@@ -1,13 +1,15 @@
 -- The 64 bytes, then the number, then what follows.
-use Prim.Native.Nat.{_≤_, _<_}
+use Prim.Native.Nat.{_+_, _≤_, _<_}
 use mathlib.Core.Path.{_∙_, sym, ap, subst}
 use borrow.Author.Tests.{le-ltb, lt-ltb}
 use borrow.Author.Needs.{needs}
 use lib.Dec.{lit≤}
+use lib.ListN.{length}
 use Rattle.fields.proofs.FirstTrouble.{first-at, first-clear, first-met, first-passed}
 use Rattle.parts.specs.declared.header.RunHeader.{RunHeader}
 use Rattle.parts.specs.Values.{header}
 use Rattle.parts.proofs.Layouts.{complete-at}
+use Rattle.parts.proofs.Places.{enough}
 use Rattle.job.specs.Troubles.{partsTrouble, runTrouble}
 use Rattle.job.proofs.runs.run_trouble.Statement.{statement}
 use Rattle.job.proofs.runs.run_trouble.Tie as tie
@@ -25,11 +27,18 @@ returns : tie.Need-returns
 unfolding runTrouble
 returns c = first-met _ (c .before .before .trouble .ensures) (c .enum-told2 .given .1)
 
+-- a header whose fields are clear is complete
+complete : (c : tie.After-enum-told) → c .before .before .before .before .args .start + 64 ≤ length (c .before .before .before .before .args .s .now)
+complete c = complete-at _ _ 64 _ (lit≤ tt) (sym (c .before .before .trouble .ensures) ∙ c .enum-told .given .1)
+
 tail-requires : tie.Need-tail-requires
 tail-requires c κs = search needs
 
 header-requires : tie.Need-header-requires
-header-requires c κs = search needs
+header-requires c κs =
+    let own = c .before in
+    let start = own .before .before .before .before in
+    enough (start .args .s .now) (start .args .start) 64 (c .tail .ensures) (complete own)
 
 returns-2 : tie.Need-returns-2
 unfolding runTrouble
@@ -42,9 +51,7 @@ returns-2 c =
     first-passed (own .before .before .trouble .ensures) (own .enum-told .given .1) (sym (first-at _ (rw (le-ltb _ _ low))))
 
 parts-trouble-requires : tie.Need-parts-trouble-requires
-parts-trouble-requires c κs =
-    let own = c .before .before .before .before .before in
-    complete-at _ _ 64 _ (lit≤ tt) (sym (own .before .before .trouble .ensures) ∙ own .enum-told .given .1)
+parts-trouble-requires c κs = complete (c .before .before .before .before .before)
 
 returns-3 : tie.Need-returns-3
 unfolding runTrouble

@@ -1,7 +1,7 @@
 -- The reader's refusal, none past the last run, or the number at the run's start.
 use borrow.Author.Needs.{needs}
 use native.Mathlib.Omega.{arith}
-use Rattle.reduction.proofs.ClearJobs.{read-clear, few-runs}
+use Rattle.reduction.proofs.ClearJobs.{read-clear, few-runs, number-left}
 use Rattle.leverbonnet.proofs.Outcomes.{place-fits, number-refused, number-past, number-done}
 use Rattle.leverbonnet.proofs.calls.run_number.Statement.{statement}
 use Rattle.leverbonnet.proofs.calls.run_number.Tie as tie
@@ -34,7 +34,7 @@ tail-requires : tie.Need-tail-requires
 tail-requires c κs = search needs
 
 u16-at-requires : tie.Need-u16-at-requires
-u16-at-requires c κs = search needs
+u16-at-requires c κs = number-left _ _ (read-clear _ (c .before .before .before .before .before .before .read .ensures) (c .before .before .before .before .enum-told .given .1)) _ (c .before .before .if1 .left) (c .tail .ensures)
 
 cast-t17 : tie.Need-cast-t17
 cast-t17 c = search needs

@@ -1,4 +1,5 @@
 -- Each field by its own read; the signed one is read back from its bits.
+use native.Mathlib.Omega.{arith}
 use borrow.Author.Needs.{needs}
 use Rattle.parts.proofs.SignedFields.{read-back}
 use Rattle.parts.proofs.header.header.Statement.{statement}
@@ -47,10 +48,10 @@ acetone-requires : tie.Need-acetone-requires
 acetone-requires c κs = search needs
 
 counts-requires : tie.Need-counts-requires
-counts-requires c κs = search needs
+counts-requires c κs = c .before .before .before .before .before .before .before .before .before .before .before .before .before .before .before .pre
 
 byte-requires : tie.Need-byte-requires
-byte-requires c κs = search needs
+byte-requires c κs = omega (arith, c .before .before .before .before .before .before .before .before .before .before .before .before .before .before .before .before .pre)
 
 cast-t18 : tie.Need-cast-t18
 cast-t18 c = search needs

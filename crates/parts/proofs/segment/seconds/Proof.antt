@@ -1,10 +1,9 @@
 -- The loop keeps the sum of the seconds passed, each below 65,536.
 use Prim.Native.Nat.{ℕ, _+_, _*_, _-_, _≤_}
-use mathlib.Core.Path.{_≡_, _∙_, ap}
-use mathlib.Core.List.{List}
+use mathlib.Core.Path.{_≡_, sym, _∙_, ap}
 use native.Mathlib.Nat.{le-antisymm}
 use borrow.Author.Needs.{needs}
-use Rattle.fields.specs.Numbers.{u16At}
+use Rattle.fields.proofs.Tails.{u16-front}
 use Rattle.records.specs.Records.{sumTo}
 use Rattle.records.proofs.Sums.{sum-none, sum-more}
 use Rattle.parts.specs.Values.{segmentAt}
@@ -20,11 +19,8 @@ abbrev μ-loop : tie.MeasureT-loop
 loop-holds : tie.Need-loop-holds Inv-loop μ-loop
 loop-holds c = (search needs, search needs, sum-none _)
 
-mul-tail : tie.Need-mul-tail Inv-loop μ-loop
-mul-tail c = search needs
-
-tail-requires : tie.Need-tail-requires Inv-loop μ-loop
-tail-requires c κs = search needs
+mul-u16-at : tie.Need-mul-u16-at Inv-loop μ-loop
+mul-u16-at c = search needs
 
 u16-at-requires : tie.Need-u16-at-requires Inv-loop μ-loop
 u16-at-requires c κs = search needs
@@ -43,8 +39,8 @@ loop-less c = search needs
 
 loop-again : tie.Need-loop-again Inv-loop μ-loop
 loop-again c =
-    let turn = c .before .before .before .loop in
-    let own = c .u16-at .ensures ∙ ap (λ (p : List ℕ). u16At p 0) (c .before .tail .ensures) in
+    let turn = c .before .before .loop in
+    let own = c .u16-at .ensures ∙ sym (u16-front _ _) in
     (search needs, search needs, ap (λ (x : ℕ). turn .total + x) own ∙ sum-more _ _ (turn .inv .2))
 
 returns : tie.Need-returns Inv-loop μ-loop
@@ -59,8 +55,7 @@ seconds-spec =
     Inv-loop
     μ-loop
     loop-holds
-    mul-tail
-    tail-requires
+    mul-u16-at
     u16-at-requires
     cast-total
     add-total
