@@ -86,14 +86,7 @@ fn keep_nearer(best: Lookup, c: Certificate, after: bool) -> Lookup
 }
 
 // Of the first `count` certificates of a file, the one of that kind and identity that is dated nearest the day, on the asked side of it.
-pub fn choose(
-    s: &[u8],
-    count: usize,
-    kind: u8,
-    identity: Identity,
-    day: u16,
-    after: bool,
-) -> Lookup
+pub fn choose(s: &[u8], count: usize, kind: u8, identity: Identity, day: u16, after: bool) -> Lookup
     requires { ⌜ certificatePlace count ≤ length (now s) ⌝ }
     ensures { λ r. ⌜ r ≡ chosen after kind identity day (certificateOf (now (s .entry))) count ⌝ }
 {

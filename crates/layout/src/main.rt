@@ -8,7 +8,8 @@ use layouts::rectangle_layout;
 use layouts::round_layout;
 use libc::STDOUT_FILENO;
 use output::Answer;
-ghost use Prim.Native.Nat.{_≤_};
+ghost use Prim.Native.Nat.{_*_, _≤_};
+ghost use lib.ListN.{length};
 
 mod points;
 mod words;
@@ -70,7 +71,7 @@ fn print_refusal(number: u32, place: u32) {
 
 // `count` points of a call's output, each with a distance for each of its sides.
 fn print_points(distances: &[u8], sides: usize, count: usize)
-    requires { ⌜ (sides ≤ 2) × (count ≤ 98) ⌝ }
+    requires { ⌜ (1 ≤ sides) × (sides ≤ 2) × (count ≤ 98) × (4 * (sides * count) ≤ length (now distances)) ⌝ }
 {
     let mut text = io::large_buffer();
     let n = put_points(&mut text, distances, sides, count);

@@ -3,7 +3,7 @@
 use fields::numbers::u32_at;
 use text::numbers::put_decimal;
 use text::numbers::put_word;
-ghost use Prim.Native.Nat.{_+_, _^_, _<_, _≤_};
+ghost use Prim.Native.Nat.{_+_, _*_, _≤_};
 ghost use lib.ListN.{length};
 ghost use Rattle.text.specs.Numbers.{Wrote};
 ghost use Rattle.layout.specs.Points.{distanceText, sidesText, pointText, pointsText};
@@ -19,7 +19,7 @@ fn put_distance(out: &mut [u8], at: usize, distance: u64) -> usize
 
 // A point's distance, or the two of a point that is measured from two sides.
 fn put_sides(out: &mut [u8], at: usize, distances: &[u8], place: usize, sides: usize) -> usize
-    requires { ⌜ (place + 4 < 2 ^ 64) × (at + 42 ≤ length (now out)) ⌝ }
+    requires { ⌜ (1 ≤ sides) × (sides ≤ 2) × (place + 4 * sides ≤ length (now distances)) × (at + 42 ≤ length (now out)) ⌝ }
     ensures { λ r. ⌜ Wrote (now (out .entry)) at (sidesText (now (distances .entry)) place sides) (now (out .exit)) r ⌝ }
 {
     let a = put_distance(out, at, u32_at(distances, place) as u64);
@@ -38,7 +38,7 @@ fn put_point(
     place: usize,
     sides: usize,
 ) -> usize
-    requires { ⌜ (place + 4 < 2 ^ 64) × (at + 63 ≤ length (now out)) ⌝ }
+    requires { ⌜ (1 ≤ sides) × (sides ≤ 2) × (place + 4 * sides ≤ length (now distances)) × (at + 63 ≤ length (now out)) ⌝ }
     ensures { λ r. ⌜ Wrote (now (out .entry)) at (pointText number (now (distances .entry)) place sides) (now (out .exit)) r ⌝ }
 {
     let a = put_decimal(out, at, number);
@@ -48,7 +48,7 @@ fn put_point(
 
 // The first `count` points. A line has at most 63 characters, and 98 lines 6,174.
 pub fn put_points(out: &mut [u8], distances: &[u8], sides: usize, count: usize) -> usize
-    requires { ⌜ (sides ≤ 2) × (count ≤ 98) × (6174 ≤ length (now out)) ⌝ }
+    requires { ⌜ (1 ≤ sides) × (sides ≤ 2) × (count ≤ 98) × (4 * (sides * count) ≤ length (now distances)) × (6174 ≤ length (now out)) ⌝ }
     ensures { λ r. ⌜ Wrote (now (out .entry)) 0 (pointsText (now (distances .entry)) sides count) (now (out .exit)) r ⌝ }
 {
     let mut next: usize = 0;

@@ -15,7 +15,7 @@ inside c =
     let buffer = c .before .before .before in
     let start = buffer .before .before in
     let short = points-short (start .args .distances .now) (start .args .sides) (start .args .count) in
-    omega (arith, short, wrote .after, wrote .kept, buffer .large-buffer .ensures, start .pre .1)
+    omega (arith, short, wrote .after, wrote .kept, buffer .large-buffer .ensures, start .pre .2)
 
 large-buffer-requires : tie.Need-large-buffer-requires
 large-buffer-requires c κs = search needs

@@ -27,7 +27,7 @@ unfolding rectangleOutcome
 print-points-requires c κs =
     let told = c .before .before in
     let within : told .answer .given .0 .0 ≤ 392 = done-within _ _ _ (told .before .before .before .rectangle-layout .ensures) (told .answer .given .1) in
-    omega arith
+    (omega arith, omega arith, omega arith, omega arith)
 
 enum-known-answer-2 : tie.Need-enum-known-answer-2
 enum-known-answer-2 c = search needs

@@ -7,13 +7,13 @@ use Rattle.layout.proofs.points.put_point.Statement.{statement}
 use Rattle.layout.proofs.points.put_point.Tie as tie
 
 put-decimal-requires : tie.Need-put-decimal-requires
-put-decimal-requires c κs = decimal-fits _ _ _ (omega (arith, c .before .before .before .pre .1))
+put-decimal-requires c κs = decimal-fits _ _ _ (omega (arith, c .before .before .before .pre .3))
 
 put-sides-requires : tie.Need-put-sides-requires
 put-sides-requires c κs =
     let number = c .before .before .before in
     let start = number .before .before .before .before in
-    (start .pre .0, omega (arith, start .pre .1, decimal-short (start .args .number), number .put-decimal .ensures))
+    (start .pre .0, start .pre .1, start .pre .2, omega (arith, start .pre .3, decimal-short (start .args .number), number .put-decimal .ensures))
 
 slice-aggregate-put-word : tie.Need-slice-aggregate-put-word
 slice-aggregate-put-word c = search needs
@@ -24,7 +24,7 @@ put-word-requires c κs =
     let number = sides .before .before .before .before in
     let start = number .before .before .before .before in
     omega
-    (arith, start .pre .1, decimal-short (start .args .number), sides-short (start .args .distances .now) (start .args .place) (start .args .sides), number .put-decimal .ensures, sides .put-sides .ensures)
+    (arith, start .pre .3, decimal-short (start .args .number), sides-short (start .args .distances .now) (start .args .place) (start .args .sides), number .put-decimal .ensures, sides .put-sides .ensures)
 
 same-length : tie.Need-same-length
 same-length c = search needs
@@ -34,7 +34,7 @@ returns c =
     let sides = c .before .before .before .before .before .before .before in
     let number = sides .before .before .before .before in
     let start = number .before .before .before .before in
-    wrote-point _ _ _ _ (start .pre .1) (number .put-decimal .ensures) (sides .put-sides .ensures) (c .before .before .put-word .ensures)
+    wrote-point _ _ _ _ (start .pre .3) (number .put-decimal .ensures) (sides .put-sides .ensures) (c .before .before .put-word .ensures)
 
 pub put-point-spec : {M : Type 1} → statement M
 put-point-spec =

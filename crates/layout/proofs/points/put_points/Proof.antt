@@ -1,6 +1,6 @@
 -- The loop writes one point a turn.
-use Prim.Native.Nat.{ℕ, _-_, _*_, _≤_, _<_}
-use native.Mathlib.Nat.{mul-le-mul}
+use Prim.Native.Nat.{ℕ, _+_, _-_, _*_, _≤_, _<_}
+use native.Mathlib.Nat.{mul-suc, mul-le-mul, mul-le-mul-left}
 use native.Mathlib.Omega.{arith}
 use Rattle.layout.proofs.PointTexts.{points-short, Pointed, pointed-none, pointed-more, pointed-all}
 use Rattle.layout.proofs.points.put_points.Statement.{statement}
@@ -16,12 +16,16 @@ abbrev μ-loop : tie.MeasureT-loop
 place-few : {sides i count : ℕ} → sides ≤ 2 → i < count → count ≤ 98 → sides * i ≤ 196
 place-few {i = i} two inside few = let last : i ≤ 98 = omega arith in mul-le-mul two last
 
+-- a point's distances stand among those of all
+point-held : (sides i count n : ℕ) → i < count → 4 * (sides * count) ≤ n → 4 * (sides * i) + 4 * sides ≤ n
+point-held sides i count n inside all = omega (arith, all, mul-suc sides i, mul-le-mul-left sides inside)
+
 few : (c : tie.After-put-point-arg Inv-loop μ-loop) → c .before .before .before .before .before .args .sides * c .before .before .loop .i ≤ 196
 few c =
-    place-few (c .before .before .before .before .before .pre .0) (c .before .loop-test .taken) (c .before .before .loop .inv .few)
+    place-few (c .before .before .before .before .before .pre .1) (c .before .loop-test .taken) (c .before .before .loop .inv .few)
 
 loop-holds : tie.Need-loop-holds Inv-loop μ-loop
-loop-holds c = let start = c .before .before in pointed-none _ _ _ _ (start .pre .1) (start .pre .2)
+loop-holds c = let start = c .before .before in pointed-none _ _ _ _ (start .pre .2) (start .pre .4)
 
 add-put-point : tie.Need-add-put-point Inv-loop μ-loop
 add-put-point c = omega (arith, c .before .loop-test .taken, c .before .before .loop .inv .few)
@@ -37,7 +41,7 @@ put-point-requires c κs =
     let l = c .before .before .loop .inv in
     let start = c .before .before .before .before .before in
     let short = points-short (start .args .distances .now) (start .args .sides) (c .before .before .loop .i) in
-    omega (arith, few c, short, l .room, l .few, l .is .after, l .is .kept, c .before .loop-test .taken)
+    (start .pre .0, start .pre .1, point-held (start .args .sides) _ _ _ (c .before .loop-test .taken) (start .pre .3), omega (arith, short, l .room, l .few, l .is .after, l .is .kept, c .before .loop-test .taken))
 
 add-i : tie.Need-add-i Inv-loop μ-loop
 add-i c =

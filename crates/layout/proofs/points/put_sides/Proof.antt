@@ -35,7 +35,7 @@ put-distance-requires-2 : tie.Need-put-distance-requires-2
 put-distance-requires-2 c κs =
     let first = c .before .before .before .before .before in
     let start = first .before .before .before .before .before in
-    omega (arith, start .pre .1, distance-short (first .before .u32-at .result), first .put-distance .ensures)
+    omega (arith, start .pre .3, distance-short (first .before .u32-at .result), first .put-distance .ensures)
 
 same-length-2 : tie.Need-same-length-2
 same-length-2 c = search needs
@@ -45,7 +45,7 @@ returns-2 c =
     let second = c .before .before in
     let first = second .before .before .before .before .before .before in
     let start = first .before .before .before .before .before in
-    wrote-two _ _ _ (start .pre .1) (second .before .before .before .if1 .left) (first .before .u32-at .ensures) (first .put-distance .ensures) (second .before .u32-at2 .ensures) (second .put-distance2 .ensures)
+    wrote-two _ _ _ (start .pre .3) (second .before .before .before .if1 .left) (first .before .u32-at .ensures) (first .put-distance .ensures) (second .before .u32-at2 .ensures) (second .put-distance2 .ensures)
 
 pub put-sides-spec : {M : Type 1} → statement M
 put-sides-spec =
