@@ -3,6 +3,7 @@ pub mod Products
 pub mod Grids
 pub mod Counted
 pub mod Places
+pub mod Parts
 pub mod Filling
 pub mod InRange
 pub mod Absent

@@ -1,10 +1,7 @@
 -- The places of a rule: which are inside, and what place each is given.
 use Prim.Native.Nat.{ℕ, suc, _≤_, _<_}
 use mathlib.Core.Path.{_≡_}
-use mathlib.Core.Bool.{Bool, true, false, cond}
 use native.Mathlib.Omega.{arith}
-use borrow.Author.Tests.{ne-eqb}
-use lib.Dec.{eqb}
 use Rattle.records.specs.declared.Counts.{Counts}
 use Rattle.findings.specs.Rules.{placesOf}
 
@@ -20,14 +17,6 @@ pub inside-segments : (n : Counts) {rule i : ℕ} → rule ≡ 11 → i < places
 unfolding placesOf
 inside-segments n e h = rw e at h
 
--- from rule 17 on, a place is one of the weighings or the whole run
-pub inside-weighings : (n : Counts) {rule i : ℕ} → 17 ≤ rule → n .weighings ≤ 8 → i < placesOf n rule → i < 8
+pub inside-weighings : (n : Counts) {rule i : ℕ} → rule ≡ 17 → i < placesOf n rule → i < n .weighings
 unfolding placesOf
-inside-weighings n {rule} {i} late few h =
-    let not-ten : rule ≡ 10 → ⊥ = omega arith in
-    let not-eleven : rule ≡ 11 → ⊥ = omega arith in
-    go (eqb rule 17) (rw (ne-eqb _ _ not-ten, ne-eqb _ _ not-eleven) at h)
-  where
-    go : (t : Bool) → i < cond t (n .weighings) 1 → i < 8
-    go true l = omega arith
-    go false l = omega arith
+inside-weighings n e h = rw e at h

@@ -1,5 +1,5 @@
 -- The twenty rules, each by what it goes by.
-use Prim.Native.Nat.{ℕ, _+_, _-_, _*_, _/_, _^_, _≤_, _<_, min, max}
+use Prim.Native.Nat.{ℕ, _+_, _-_, _*_, _/_, _^_, _≤_, min, max}
 use mathlib.Core.Path.{_≡_}
 use mathlib.Core.Bool.{Bool, cond, _&&_}
 use mathlib.Core.List.{List, [], _∷_}
@@ -218,23 +218,3 @@ placeOf rule i = cond (oneOf (10 ∷ 11 ∷ 17 ∷ []) rule) (i + 1) 0
 -- the class of a finding, 1 fault or 2 note: notes are 5 and 11, the rest are faults
 unfoldable pub classOf : ℕ → ℕ
 classOf rule = cond (oneOf (5 ∷ 11 ∷ []) rule) 2 1
-
--- rule 10 or 11, at one of its places, of a time and a volume in range
-pub record OfField (i t v rule : ℕ) : Type 0 where
-  pub first : 10 ≤ rule
-  pub last : rule ≤ 11
-  pub point : rule ≡ 10 → i < 64
-  pub segment : rule ≡ 11 → i < 16
-  pub time : t ≤ 36000
-  pub volume : v ≤ 999999
-
--- a rule can be judged at i: it is one of the twenty, i is one of its places, and the run's counts and lines are in range
-pub record Judged (r : Run) (l : Lines) (rule i : ℕ) : Type 0 where
-  pub first : 1 ≤ rule
-  pub last : rule ≤ 20
-  pub inside : i < placesOf (r .counts) rule
-  pub points : r .counts .points ≤ 64
-  pub segments : r .counts .segments ≤ 16
-  pub weighings : r .counts .weighings ≤ 8
-  pub time : l .metering .time ≤ 36000
-  pub volume : l .metering .volume ≤ 999999

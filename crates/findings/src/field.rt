@@ -8,16 +8,14 @@ use records::Point;
 use records::Segment;
 ghost use mathlib.Core.Path.{_≡_};
 ghost use Prim.Native.Nat.{_≤_};
-ghost use lib.ListN.{getD};
-ghost use Rattle.records.specs.Records.{noPoint, noSegment};
 ghost use Rattle.lines.specs.Metering.{allowance};
-ghost use Rattle.findings.specs.Rules.{short, leaking, fieldGround, OfField};
+ghost use Rattle.findings.specs.Rules.{short, leaking};
 
 // The least time at a point, seconds.
 const LEAST_SECONDS: u64 = 120;
 
 // Rule 10: a point under 120 seconds.
-fn short(point: Point) -> Ground
+pub fn short(point: Point) -> Ground
     ensures { λ r. ⌜ r ≡ short point ⌝ }
 {
     Ground::Compared(Comparison {
@@ -36,7 +34,7 @@ fn allowance(time: u64, volume: u64) -> u64
 }
 
 // Rule 11: a segment's leak above the allowance, of a run of that time T and metered volume V.
-fn leaking(time: u64, volume: u64, segment: Segment) -> Ground
+pub fn leaking(time: u64, volume: u64, segment: Segment) -> Ground
     requires { ⌜ (time ≤ 36000) × (volume ≤ 999999) ⌝ }
     ensures { λ r. ⌜ r ≡ leaking time volume segment ⌝ }
 {
@@ -45,22 +43,4 @@ fn leaking(time: u64, volume: u64, segment: Segment) -> Ground
         way: Way::Above,
         right: allowance(time, volume),
     })
-}
-
-// What rules 10 and 11 go by at a point or segment, counted from 0.
-pub fn ground_of(
-    points: [Point; 64],
-    segments: [Segment; 16],
-    i: usize,
-    time: u64,
-    volume: u64,
-    rule: u8,
-) -> Ground
-    requires { ⌜ OfField i time volume rule ⌝ }
-    ensures { λ r. ⌜ r ≡ fieldGround (getD points i noPoint) (getD segments i noSegment) time volume rule ⌝ }
-{
-    if rule == 10 {
-        return short(points[i]);
-    }
-    leaking(time, volume, segments[i])
 }

@@ -12,12 +12,17 @@ pub mod weighings;
 
 use certs::Chosen;
 use lines::Lines;
+use records::Counts;
 use records::Run;
+use records::Site;
+use records::Weighing;
+use rules::Part;
 ghost use mathlib.Core.Path.{_≡_};
 ghost use Prim.Native.Nat.{_≤_};
 ghost use lib.ListN.{take};
-ghost use Rattle.findings.specs.Rules.{Judged};
-ghost use Rattle.findings.specs.Listing.{findingAt, brokenAt, findings, listed, accepted, Worked};
+ghost use Rattle.findings.specs.Grounds.{broken};
+ghost use Rattle.findings.specs.Parts.{partGround, Judged};
+ghost use Rattle.findings.specs.Listing.{findingAt, findings, listed, accepted, Worked};
 
 // A broken rule: its number, its class and the place.
 pub struct Finding {
@@ -41,12 +46,20 @@ pub struct Findings {
     pub list: [Finding; MOST],
 }
 
-// Whether a rule is broken at one of its places, counted from 0.
-fn broken_at(run: Run, chosen: Chosen, lines: Lines, rule: u8, i: u8) -> bool
-    requires { ⌜ Judged run lines rule i ⌝ }
-    ensures { λ r. ⌜ r ≡ brokenAt run chosen lines rule i ⌝ }
+// Whether a rule is broken, by the part that it looks at.
+fn broken_on(
+    part: Part,
+    site: Site,
+    counts: Counts,
+    weighings: [Weighing; 8],
+    chosen: Chosen,
+    lines: Lines,
+    rule: u8,
+) -> bool
+    requires { ⌜ Judged part counts lines rule ⌝ }
+    ensures { λ r. ⌜ r ≡ broken (partGround part site counts weighings chosen lines rule) ⌝ }
 {
-    rules::ground_of(run, chosen, lines, rule, i as usize).broken()
+    rules::ground_of(part, site, counts, weighings, chosen, lines, rule).broken()
 }
 
 // The finding of a rule at one of its places, counted from 0.
@@ -65,6 +78,9 @@ pub fn find(run: Run, chosen: Chosen, lines: Lines) -> Findings
     requires { ⌜ Worked run chosen lines ⌝ }
     ensures { λ r. ⌜ r ≡ listed (findings run chosen lines) ⌝ }
 {
+    let points = run.points;
+    let segments = run.segments;
+    let weighings = run.weighings;
     let mut list = [Finding {
         rule: 0,
         class: 0,
@@ -77,7 +93,13 @@ pub fn find(run: Run, chosen: Chosen, lines: Lines) -> Findings
         let places = rules::places(run.counts, rule);
         let mut i: u8 = 0;
         while i < places {
-            if broken_at(run, chosen, lines, rule, i) {
+            let part = match rule {
+                10 => Part::Point(points[i as usize]),
+                11 => Part::Segment(segments[i as usize]),
+                17 => Part::Weighing(weighings[i as usize]),
+                _ => Part::Whole,
+            };
+            if broken_on(part, run.site, run.counts, weighings, chosen, lines, rule) {
                 list[count] = finding_at(rule, i);
                 count += 1;
             }

@@ -9,25 +9,25 @@ use crate::site;
 use crate::weighings;
 use certs::Chosen;
 use lines::Lines;
-use lines::Metering;
 use records::Counts;
-use records::Run;
+use records::Point;
+use records::Segment;
+use records::Site;
+use records::Weighing;
 ghost use mathlib.Core.Path.{_≡_};
 ghost use Prim.Native.Nat.{_≤_};
-ghost use Rattle.records.specs.Records.{pointOf, segmentOf};
-ghost use Rattle.findings.specs.Rules.{fieldGround, lineGround, groundOf, placesOf, placeOf, classOf, OfField, Judged};
+ghost use Rattle.findings.specs.Rules.{lineGround, placesOf, placeOf, classOf};
+ghost use Rattle.findings.specs.Parts.{runGround, partGround, OfRun, Judged};
 
 // How many rules there are.
 pub const RULES: u8 = 20;
 
-// Rules 10 and 11 of a run.
-fn field_ground_of(run: Run, metering: Metering, rule: u8, i: usize) -> Ground
-    requires { ⌜ OfField i (metering .time) (metering .volume) rule ⌝ }
-    ensures { λ r. ⌜ r ≡ fieldGround (pointOf run i) (segmentOf run i) (metering .time) (metering .volume) rule ⌝ }
-{
-    let points = run.points;
-    let segments = run.segments;
-    field::ground_of(points, segments, i, metering.time, metering.volume, rule)
+// What a rule looks at: one of the run's points, segments or weighings, or the run as a whole.
+pub enum Part {
+    Whole,
+    Point(Point),
+    Segment(Segment),
+    Weighing(Weighing),
 }
 
 // Rules 12 to 16 of a run.
@@ -44,25 +44,51 @@ fn line_ground_of(lines: Lines, rule: u8) -> Ground
     sheet::ground_of(metering.corrected, dry, velocity, isokinetic, rule)
 }
 
-// What a rule goes by. Of a rule about points, segments or weighings, `i` counts them from 0.
-pub fn ground_of(run: Run, chosen: Chosen, lines: Lines, rule: u8, i: usize) -> Ground
-    requires { ⌜ Judged run lines rule i ⌝ }
-    ensures { λ r. ⌜ r ≡ groundOf run chosen lines rule i ⌝ }
+// What a rule goes by that looks at the run as a whole.
+fn ground_of_run(
+    site: Site,
+    counts: Counts,
+    weighings: [Weighing; 8],
+    chosen: Chosen,
+    lines: Lines,
+    rule: u8,
+) -> Ground
+    requires { ⌜ OfRun rule × (counts .weighings ≤ 8) ⌝ }
+    ensures { λ r. ⌜ r ≡ runGround site counts weighings chosen lines rule ⌝ }
 {
     if rule <= 6 {
         return certificates::ground_of(chosen, rule);
     }
     if rule <= 9 {
-        return site::ground_of(run.site, run.counts.points, rule);
-    }
-    if rule <= 11 {
-        return field_ground_of(run, lines.metering, rule, i);
+        return site::ground_of(site, counts.points, rule);
     }
     if rule <= 16 {
         return line_ground_of(lines, rule);
     }
-    let weighings = run.weighings;
-    weighings::ground_of(weighings, run.counts.weighings, i, lines.sampling, rule)
+    weighings::ground_of(weighings, counts.weighings, lines.sampling, rule)
+}
+
+// What a rule goes by, of the part that it looks at.
+pub fn ground_of(
+    part: Part,
+    site: Site,
+    counts: Counts,
+    weighings: [Weighing; 8],
+    chosen: Chosen,
+    lines: Lines,
+    rule: u8,
+) -> Ground
+    requires { ⌜ Judged part counts lines rule ⌝ }
+    ensures { λ r. ⌜ r ≡ partGround part site counts weighings chosen lines rule ⌝ }
+{
+    match part {
+        Part::Point(point) => field::short(point),
+        Part::Segment(segment) => {
+            field::leaking(lines.metering.time, lines.metering.volume, segment)
+        }
+        Part::Weighing(weighing) => weighings::unsteady(weighing),
+        Part::Whole => ground_of_run(site, counts, weighings, chosen, lines, rule),
+    }
 }
 
 // Of how many places a rule speaks: points, segments or weighings, and otherwise the whole run.

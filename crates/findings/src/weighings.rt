@@ -7,8 +7,7 @@ use certs::comparison::Way;
 use lines::Sampling;
 use records::Weighing;
 ghost use mathlib.Core.Path.{_≡_};
-ghost use Prim.Native.Nat.{_≤_, _<_};
-ghost use lib.ListN.{getD};
+ghost use Prim.Native.Nat.{_≤_};
 ghost use Rattle.records.specs.Records.{noWeighing};
 ghost use Rattle.findings.specs.Rules.{unsteady, ofKind, lacking, negative, weighingGround};
 
@@ -25,7 +24,7 @@ impl Weighed {
 }
 
 // Rule 17: a weighing whose two final weights differ by too much.
-fn unsteady(weighing: Weighing) -> Ground
+pub fn unsteady(weighing: Weighing) -> Ground
     ensures { λ r. ⌜ r ≡ unsteady weighing ⌝ }
 {
     Ground::Compared(Comparison {
@@ -72,13 +71,12 @@ fn negative(sampling: Sampling) -> Ground
     Ground::SignedBelow(sampling.catch, 0)
 }
 
-// What rules 17 to 20 go by, at a weighing counted from 0, of all n of them and of line 19.
-pub fn ground_of(weighings: [Weighing; 8], n: u8, i: usize, sampling: Sampling, rule: u8) -> Ground
-    requires { ⌜ (17 ≤ rule) × (rule ≤ 20) × (n ≤ 8) × (i < 8) ⌝ }
-    ensures { λ r. ⌜ r ≡ weighingGround (getD weighings i noWeighing) weighings n (sampling .catch) rule ⌝ }
+// What rules 18 to 20 go by, of all n weighings and of line 19.
+pub fn ground_of(weighings: [Weighing; 8], n: u8, sampling: Sampling, rule: u8) -> Ground
+    requires { ⌜ (18 ≤ rule) × (rule ≤ 20) × (n ≤ 8) ⌝ }
+    ensures { λ r. ⌜ r ≡ weighingGround noWeighing weighings n (sampling .catch) rule ⌝ }
 {
     match rule {
-        17 => unsteady(weighings[i]),
         18 => lacking(Weighed::FILTER, weighings, n),
         19 => lacking(Weighed::RINSE, weighings, n),
         _ => negative(sampling),
