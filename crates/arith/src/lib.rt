@@ -1,8 +1,8 @@
-// The ground floor: rounded division and the nearest root, each once for every unit of the paper, and two small choices.
+// The ground floor: rounded division and the nearest root, each once for every unit of the paper, and three small choices.
 // Nothing here knows of stacks or meters. The layers above rely on `roundDiv` and `nearestRoot` and their laws.
 
 ghost use mathlib.Core.Path.{_≡_};
-ghost use Prim.Native.Nat.{_-_, _<_, min};
+ghost use Prim.Native.Nat.{_-_, _<_, min, max};
 ghost use Rattle.arith.specs.Rounding.{roundDiv};
 ghost use Rattle.arith.specs.Root.{nearestRoot, FirstBound};
 
@@ -18,6 +18,13 @@ pub fn smaller(a: u64, b: u64) -> u64
     ensures { λ r. ⌜ r ≡ min a b ⌝ }
 {
     if a <= b { a } else { b }
+}
+
+// The larger of two numbers.
+pub fn larger(a: u64, b: u64) -> u64
+    ensures { λ r. ⌜ r ≡ max a b ⌝ }
+{
+    if a <= b { b } else { a }
 }
 
 // n / d to the nearest whole number, halves upward. The quotient and the remainder decide, so nothing overflows.

@@ -1,7 +1,8 @@
 // Rules 1 to 6: the certificates.
 
 use crate::ground::Ground;
-use crate::order;
+use arith::larger;
+use arith::smaller;
 use certs::Chosen;
 use certs::Lookup;
 use certs::comparison::Comparison;
@@ -41,7 +42,7 @@ fn moved(before: Lookup, after: Lookup) -> Ground
 fn spread(a: u64, b: u64, c: u64) -> u64
     ensures { λ r. ⌜ r ≡ spread a b c ⌝ }
 {
-    order::higher(order::higher(a, b), c) - order::lower(order::lower(a, b), c)
+    larger(larger(a, b), c) - smaller(smaller(a, b), c)
 }
 
 // Rule 6: the nozzle's highest and lowest diameter differ by too much.

@@ -1,14 +1,13 @@
 // Rules 10 and 11: points and segments.
 
 use crate::ground::Ground;
-use crate::order;
 use certs::comparison::Comparison;
 use certs::comparison::Way;
+use lines::volumes::allowance;
 use records::Point;
 use records::Segment;
 ghost use mathlib.Core.Path.{_≡_};
 ghost use Prim.Native.Nat.{_≤_};
-ghost use Rattle.lines.specs.Metering.{allowance};
 ghost use Rattle.findings.specs.Rules.{short, leaking};
 
 // The least time at a point, seconds.
@@ -23,14 +22,6 @@ pub fn short(point: Point) -> Ground
         way: Way::Below,
         right: LEAST_SECONDS,
     })
-}
-
-// What is allowed of 5·T·leak.
-fn allowance(time: u64, volume: u64) -> u64
-    requires { ⌜ (time ≤ 36000) × (volume ≤ 999999) ⌝ }
-    ensures { λ r. ⌜ r ≡ allowance time volume ⌝ }
-{
-    order::lower(100 * time, 12 * volume)
 }
 
 // Rule 11: a segment's leak above the allowance, of a run of that time T and metered volume V.

@@ -4,7 +4,6 @@
 pub mod certificates;
 pub mod field;
 pub mod ground;
-pub mod order;
 pub mod rules;
 pub mod sheet;
 pub mod site;

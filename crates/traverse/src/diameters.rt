@@ -1,11 +1,12 @@
 // Points on the diameter of a round stack. Positions are thousandths of the diameter and worked from the equal-area rule.
 
+use arith::larger;
 use arith::nearest_root;
 use arith::round_div;
 use arith::smaller;
 ghost use mathlib.Core.Path.{_≡_};
 ghost use mathlib.Core.Bool.{true};
-ghost use Prim.Native.Nat.{_*_, _≤_, max};
+ghost use Prim.Native.Nat.{_*_, _≤_};
 ghost use Rattle.readings.specs.Ranges.{diameterPoints};
 ghost use Rattle.traverse.specs.Layout.{AtMost};
 ghost use Rattle.traverse.specs.Positions.{nearPosition, position};
@@ -38,13 +39,6 @@ fn position(n: u64, i: u64) -> u64
         return near_position(n, i);
     }
     1000 - near_position(n, n + 1 - i)
-}
-
-// The larger of two numbers.
-fn larger(a: u64, b: u64) -> u64
-    ensures { λ r. ⌜ r ≡ max a b ⌝ }
-{
-    if a <= b { b } else { a }
 }
 
 // How far a point stays from the walls, 0.001 in.

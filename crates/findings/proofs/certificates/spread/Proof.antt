@@ -1,28 +1,28 @@
--- `spread` is its definition, from the higher and the lower of each two.
+-- `spread` is its definition, from the larger and the smaller of each two.
 use borrow.Author.Needs.{needs}
 use Rattle.findings.proofs.certificates.spread.Statement.{statement}
 use Rattle.findings.proofs.certificates.spread.Tie as tie
 
-higher-requires : tie.Need-higher-requires
-higher-requires c κs = search needs
+larger-requires : tie.Need-larger-requires
+larger-requires c κs = search needs
 
-higher-requires-2 : tie.Need-higher-requires-2
-higher-requires-2 c κs = search needs
+larger-requires-2 : tie.Need-larger-requires-2
+larger-requires-2 c κs = search needs
 
-lower-requires : tie.Need-lower-requires
-lower-requires c κs = search needs
+smaller-requires : tie.Need-smaller-requires
+smaller-requires c κs = search needs
 
-lower-requires-2 : tie.Need-lower-requires-2
-lower-requires-2 c κs = search needs
+smaller-requires-2 : tie.Need-smaller-requires-2
+smaller-requires-2 c κs = search needs
 
 sub-result : tie.Need-sub-result
 sub-result c = search needs
 
 returns : tie.Need-returns
 returns c =
-    rw (c .before .before .higher2 .ensures, c .before .before .before .higher .ensures, c .lower2 .ensures, c .before .lower .ensures)
+    rw (c .before .before .larger2 .ensures, c .before .before .before .larger .ensures, c .smaller2 .ensures, c .before .smaller .ensures)
 
 pub spread-spec : {M : Type 1} → statement M
 spread-spec =
     tie.close
-    (tie.spec higher-requires higher-requires-2 lower-requires lower-requires-2 sub-result returns)
+    (tie.spec larger-requires larger-requires-2 smaller-requires smaller-requires-2 sub-result returns)

@@ -22,7 +22,7 @@ allowance-requires : tie.Need-allowance-requires
 allowance-requires c κs = search needs
 
 returns : tie.Need-returns
-returns c = rw (c .allowance .ensures)
+returns c = rw (c .allowance .ensures .is)
 
 pub leaking-spec : {M : Type 1} → statement M
 leaking-spec = tie.close (tie.spec mul-t4 cast-t5 mul-t6 allowance-requires returns)
