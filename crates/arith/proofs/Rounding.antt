@@ -1,7 +1,7 @@
 -- The laws of rounded division: it is the nearest whole number, at a half the upper one, and no other is.
 use Prim.Native.Nat.{ℕ, _+_, _-_, _*_, _/_, _%_, _≤_, _<_}
 use mathlib.Core.Path.{_≡_, sym, _∙_}
-use native.Mathlib.Nat.{mul-left-comm, mul-comm, add-mul, one-mul, mul-add, div-mul-le-self, lt-div-mul-add, div-eq-of-lt-le, div-lt-iff-lt-mul, le-div-iff-mul-le, mul-pos, le-trans, mul-le-mul-right, div-add-mod', mod-lt, lt-of-mul-lt-mul-right, mul-assoc}
+use native.Mathlib.Nat.{mul-left-comm, add-mul, one-mul, div-mul-le-self, lt-div-mul-add, div-eq-of-lt-le, div-lt-iff-lt-mul, le-div-iff-mul-le, div-add-mod', mod-lt}
 use native.Mathlib.Omega.{arith}
 use Rattle.arith.specs.Rounding.{roundDiv, IsRounded}
 

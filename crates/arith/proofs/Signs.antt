@@ -7,7 +7,6 @@ use native.Mathlib.Omega.{arith}
 use borrow.Author.Tests.{ltb-true}
 use lib.Dec.{lit≤}
 use lib.IntN.{ℤ, pos, negsuc}
-use lib.Pow.{pow-mono, pow-pos}
 use lib.Signed.{ltZ}
 use mir.Facts.{toZ-ofZ, toZ-pos}
 use mir.Syntax.{Width, w8, w16, w32, w64, w128}

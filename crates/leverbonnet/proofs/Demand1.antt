@@ -1,9 +1,9 @@
 -- Demand 1. Every string of bytes is answered: the call is a total function of it. It is refused only by the table.
-use Prim.Native.Nat.{ℕ, zero, suc, _*_, _≤_, _<_}
+use Prim.Native.Nat.{ℕ, zero, suc, _*_, _<_}
 use mathlib.Core.Path.{_≡_, refl, sym, _∙_, ap, subst₂}
 use mathlib.Core.Bool.{Bool, true, false, cond, _||_}
 use mathlib.Core.List.{List}
-use mathlib.Core.Logic.{_⊎_, inl, inr}
+use mathlib.Core.Logic.{inl, inr}
 use native.Mathlib.Decide.{ℕ-discrete}
 use native.Mathlib.Omega.{arith}
 use borrow.Author.Tests.{ltb-true, eqb-true, eqb-false}
@@ -12,12 +12,11 @@ use Rattle.fields.specs.declared.trouble.Trouble.{Trouble}
 use Rattle.fields.specs.declared.trouble.Trouble.the-variants.{Clear, At}
 use Rattle.job.specs.Places.{runCountOf, runOf}
 use Rattle.job.specs.Troubles.{jobTrouble}
-use Rattle.job.proofs.Numbers.{numbers}
 use Rattle.reduction.specs.declared.Reduced.{Reduced}
 use Rattle.reduction.specs.declared.Which.{Which}
 use Rattle.reduction.specs.declared.Which.the-variants.{Run as RunAt, Nothing}
 use Rattle.reduction.specs.Reducing.{reducedRun, runNamed}
-use Rattle.leverbonnet.specs.Calls.{Outcome, refused, reduced, handed, ofRun, ofTrouble, outcome}
+use Rattle.leverbonnet.specs.Calls.{refused, reduced, handed, ofRun, ofTrouble, outcome}
 use Rattle.leverbonnet.specs.Demands.{ByTable, reader, noRun, tooShort}
 use Rattle.leverbonnet.proofs.Outcomes.{found-inside}
 

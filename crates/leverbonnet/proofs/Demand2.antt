@@ -1,9 +1,9 @@
 -- Demand 2. Each of the twenty written lines is its equation's value: nine bytes at its place, from the run's own record and the certificates chosen for it.
-use Prim.Native.Nat.{ℕ, zero, suc, _+_, _*_, _≤_, _<_}
+use Prim.Native.Nat.{ℕ, zero, suc, _+_, _*_, _<_}
 use mathlib.Core.Path.{_≡_, refl, sym, _∙_, ap}
-use mathlib.Core.List.{List, [], _∷_, _++_, append-assoc, append-nil}
+use mathlib.Core.List.{List, [], _++_, append-assoc, append-nil}
 use mathlib.Core.Logic.{_⊎_, inl, inr}
-use native.Mathlib.Nat.{eq-or-lt-of-le, le-of-suc-le-suc, mul-suc, mul-zero}
+use native.Mathlib.Nat.{eq-or-lt-of-le, le-of-suc-le-suc, mul-suc}
 use native.Mathlib.Omega.{arith}
 use lib.ListN.{length, take, drop, getD, length-append}
 use lib.Seq.{take-at, drop-at}
@@ -14,7 +14,7 @@ use Rattle.job.specs.Places.{runOf}
 use Rattle.reduction.specs.Reducing.{worked, chosenIn, reducedRun}
 use Rattle.output.specs.Splice.{spliced}
 use Rattle.leverbonnet.specs.Bytes.{entryBytes, entriesBytes, sheetBytes, noEntry}
-use Rattle.leverbonnet.specs.Calls.{Outcome, reduced, outcome, linesAfter}
+use Rattle.leverbonnet.specs.Calls.{reduced, outcome, linesAfter}
 use Rattle.leverbonnet.proofs.Filling.{entry-length}
 
 -- the lines up to one, that one, and the rest

@@ -5,12 +5,10 @@ use mathlib.Core.Path.{_≡_, refl, sym, _∙_, ap}
 use mathlib.Core.Bool.{true}
 use mathlib.Core.List.{List}
 use mathlib.Core.Logic.{_↔_}
-use native.Mathlib.Nat.{not-le-of-lt}
 use native.Mathlib.Decide.{decLt}
 use native.Mathlib.Omega.{arith}
 use lib.ListN.{length, getD}
 use Rattle.fields.specs.declared.trouble.Trouble.the-variants.{Clear}
-use Rattle.records.specs.declared.Certificate.{Certificate}
 use Rattle.certs.specs.Choosing.{Unique, Of}
 use Rattle.certs.proofs.Choosing.{chosenFor-same-members}
 use Rattle.findings.specs.Listing.{noFinding, accepted, linesFor, findingsFor, Breaks, Holds}

@@ -1,12 +1,11 @@
 -- A buffer filled from the front, one record of a fixed size after another.
-use Prim.Native.Nat.{ℕ, zero, suc, _+_, _*_, _≤_}
-use mathlib.Core.Path.{_≡_, refl, sym, _∙_, ap}
-use mathlib.Core.List.{List, [], _∷_, _++_}
+use Prim.Native.Nat.{ℕ, suc, _+_, _*_, _≤_}
+use mathlib.Core.Path.{_≡_, sym, _∙_, ap}
+use mathlib.Core.List.{List, [], _++_}
 use native.Mathlib.Nat.{mul-suc, mul-zero, zero-add}
 use native.Mathlib.Numerals.{add-one}
-use native.Mathlib.Omega.{arith}
-use lib.ListN.{length, getD, length-append}
-use Rattle.output.specs.Bytes.{le, bits}
+use lib.ListN.{length, length-append}
+use Rattle.output.specs.Bytes.{bits}
 use Rattle.output.specs.Splice.{spliced}
 use Rattle.output.proofs.Bytes.{length-le}
 use Rattle.output.proofs.Splice.{length-spliced, spliced-none, spliced-more}

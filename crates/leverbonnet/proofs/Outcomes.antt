@@ -1,5 +1,5 @@
 -- Each way through a call, and the outcome that it is.
-use Prim.Native.Nat.{ℕ, zero, suc, _+_, _*_, _^_, _≤_, _<_}
+use Prim.Native.Nat.{ℕ, zero, suc, _*_, _^_, _≤_, _<_}
 use mathlib.Core.Path.{_≡_, refl, sym, _∙_, ap, subst}
 use mathlib.Core.Bool.{Bool, true, false, cond}
 use mathlib.Core.List.{List}
@@ -7,14 +7,12 @@ use native.Mathlib.Omega.{arith}
 use borrow.Author.Tests.{lt-ltb, le-ltb, le-leb, lt-leb}
 use lib.Dec.{eqb}
 use lib.ListN.{length, getD, drop}
-use Rattle.fields.specs.declared.trouble.Trouble.the-variants.{Clear, At}
+use Rattle.fields.specs.declared.trouble.Trouble.the-variants.{At}
 use Rattle.fields.specs.Numbers.{u16At}
 use Rattle.job.specs.declared.Job.{Job}
-use Rattle.job.specs.Places.{runCountOf, runStart, runOf}
+use Rattle.job.specs.Places.{runCountOf, runOf}
 use Rattle.job.specs.Reading.{readJob}
-use Rattle.job.specs.Troubles.{jobTrouble}
 use Rattle.job.proofs.Reach.{places}
-use Rattle.job.proofs.Numbers.{numbers}
 use Rattle.parts.specs.Values.{runAt}
 use Rattle.reduction.specs.declared.Reduced.{Reduced}
 use Rattle.reduction.specs.declared.Which.{Which}

@@ -1,5 +1,5 @@
 -- A difference of two numbers that may be negative, as the machine's signed numbers hold it.
-use Prim.Native.Nat.{ℕ, zero, suc, _+_, _-_, _^_, _≤_, _<_}
+use Prim.Native.Nat.{ℕ, zero, suc, _-_, _^_, _≤_, _<_}
 use mathlib.Core.Path.{_≡_, refl, sym, _∙_, ap₂}
 use mathlib.Core.Bool.{true, false}
 use native.Mathlib.Nat.{add-zero, sub-zero, lt-of-not-le}

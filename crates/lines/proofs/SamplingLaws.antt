@@ -1,13 +1,11 @@
 -- Lines 16, 17, 18 and 20 case by case, and the bounds of their products.
-use Prim.Native.Nat.{ℕ, suc, _+_, _-_, _*_, _/_, _^_, min, _≤_, _<_}
+use Prim.Native.Nat.{ℕ, _+_, _-_, _*_, _/_, _^_, _≤_}
 use mathlib.Core.Path.{_≡_, refl}
-use mathlib.Core.Bool.{true, false}
-use native.Mathlib.Nat.{mul-le-mul, mul-le-mul-left, mul-le-mul-right, mul-pos, min-le-right, le-trans, div-le-of-le-mul}
+use native.Mathlib.Nat.{mul-le-mul, mul-le-mul-left, min-le-right, le-trans}
 use native.Mathlib.Omega.{arith}
 use lib.IntN.{ℤ, pos, negsuc}
-use lib.Signed.{ltZ}
 use Rattle.arith.specs.Rounding.{roundDiv}
-use Rattle.readings.proofs.Ranges.{within-least, within-greatest}
+use Rattle.readings.proofs.Ranges.{within-greatest}
 use Rattle.records.specs.declared.Acetone.{Acetone}
 use Rattle.records.specs.InRange.{AcetoneOk}
 use Rattle.lines.specs.declared.Value.{Value}

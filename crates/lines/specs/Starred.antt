@@ -1,8 +1,7 @@
 -- The paper's values on either side that belong to the lines, and the worked job's sheet: what is worked out, beside what is printed.
 use Prim.Native.Nat.{ℕ}
 use mathlib.Core.List.{List, [], _∷_, map}
-use lib.IntN.{ℤ, pos, natAbs}
-use Rattle.records.specs.declared.Segment.{Segment}
+use lib.IntN.{natAbs}
 use Rattle.records.specs.Worked.{workedRun}
 use Rattle.lines.specs.declared.Value.the-variants.{Known}
 use Rattle.lines.specs.declared.Diameters.the-variants.{Measured}

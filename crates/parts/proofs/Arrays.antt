@@ -7,7 +7,7 @@ use native.Mathlib.Nat.{eq-or-lt-of-le, le-of-suc-le-suc}
 use native.Mathlib.Numerals.{add-one}
 use native.Mathlib.Omega.{arith}
 use lib.ListN.{length, getD, set, replicate, length-set, length-replicate}
-use lib.Seq.{getD-set-same, getD-set-other, set-out}
+use lib.Seq.{getD-set-same, getD-set-other}
 use Rattle.parts.specs.Arrays.{padded}
 
 module _ {A : Type 0} (size : ℕ) (none : A) (f : ℕ → A) where
@@ -25,19 +25,6 @@ module _ {A : Type 0} (size : ℕ) (none : A) (f : ℕ → A) where
   pub pad-more : (n : ℕ) {all : List A} {v : A} → all ≡ padded size none f n → v ≡ f n → set all n v ≡ padded size none f (n + 1)
   unfolding padded
   pad-more n e g = rw (add-one, e, g)
-
-  -- no room for more
-  pub pad-full : (i n : ℕ) → size ≤ i → i ≤ n → padded size none f i ≡ padded size none f n
-  unfolding padded
-  pad-full i zero full h = let same : i ≡ zero = omega arith in ap (padded size none f) same
-  pad-full i (suc n) full h =
-      ⊎-elim
-      (λ same. ap (padded size none f) same)
-      (λ less.
-      let below : i ≤ n = le-of-suc-le-suc less in
-      let room : size ≤ n = omega arith in
-      pad-full i n full below ∙ sym (set-out _ n (f n) (rw (pad-length n) room)))
-      (eq-or-lt-of-le h)
 
   -- what was filled in
   pub pad-at : (n i : ℕ) → i < n → n ≤ size → getD (padded size none f n) i none ≡ f i

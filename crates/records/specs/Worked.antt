@@ -6,8 +6,6 @@ use lib.ListN.{replicate}
 use Rattle.records.specs.declared.Certificate.{Certificate}
 use Rattle.records.specs.declared.Identity.{Identity}
 use Rattle.records.specs.declared.Point.{Point}
-use Rattle.records.specs.declared.Segment.{Segment}
-use Rattle.records.specs.declared.Weighing.{Weighing}
 use Rattle.records.specs.declared.Run.{Run}
 use Rattle.records.specs.Records.{noPoint, noSegment, noWeighing}
 

@@ -9,8 +9,6 @@ use lines::Sheet;
 use lines::sheets;
 use records::Run;
 ghost use mathlib.Core.Path.{_≡_};
-ghost use Prim.Native.Nat.{_≤_};
-ghost use Rattle.job.specs.Reading.{readJob};
 ghost use Rattle.parts.specs.Values.{certificateOf};
 ghost use Rattle.certs.specs.Choosing.{chosenFor};
 ghost use Rattle.reduction.specs.Reducing.{Workable, ClearJob, ClearRun, worked, runNamed, reducedRun};

@@ -5,7 +5,7 @@ use mathlib.Core.Path.{_≡_}
 use native.Mathlib.Nat.{mul-le-mul}
 use native.Mathlib.Omega.{arith}
 use borrow.Author.Needs.{needs}
-use Rattle.arith.specs.Root.{nearestRoot, IsRoot}
+use Rattle.arith.specs.Root.{nearestRoot}
 use Rattle.arith.proofs.Root.{nearest-is, root-unique}
 use Rattle.arith.proofs.nearest_root.Statement.{statement}
 use Rattle.arith.proofs.nearest_root.Tie as tie

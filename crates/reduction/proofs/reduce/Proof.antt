@@ -1,7 +1,6 @@
 -- The run is read at its place and worked with the certificates that the job holds.
-use borrow.Author.Needs.{needs}
 use native.Mathlib.Omega.{arith}
-use mathlib.Core.Path.{_∙_, ap, ap₂}
+use mathlib.Core.Path.{_∙_, ap}
 use Rattle.reduction.specs.Reducing.{reducedRun, chosenIn, worked}
 use Rattle.reduction.proofs.ClearJobs.{few-runs, count-of-runs, count-of-certificates, start-of, lies-within, workable}
 use Prim.Native.Nat.{ℕ}

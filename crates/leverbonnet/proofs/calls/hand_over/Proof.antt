@@ -1,6 +1,5 @@
 -- Two refusals before a byte is written, and the two writes.
 use borrow.Author.Needs.{needs}
-use native.Mathlib.Omega.{arith}
 use Rattle.leverbonnet.proofs.Outcomes.{came-refused, short-lines, short-findings, came-reduced}
 use Rattle.leverbonnet.proofs.calls.hand_over.Statement.{statement}
 use Rattle.leverbonnet.proofs.calls.hand_over.Tie as tie

@@ -3,9 +3,9 @@ use borrow.Author.Needs.{needs}
 use native.Mathlib.Omega.{arith}
 use Rattle.lines.proofs.CatchLaws.{difference, catch-ok, catch-fits}
 use Prim.Native.Nat.{ℕ, _+_, _≤_}
-use mathlib.Core.Path.{_≡_, _∙_, ap, ap₂, sym, subst⁻¹}
+use mathlib.Core.Path.{_≡_, _∙_, ap₂, subst⁻¹}
 use mathlib.Core.List.{List}
-use lib.IntN.{ℤ, subℕ, _-ℤ_}
+use lib.IntN.{subℕ, _-ℤ_}
 use mir.Facts.{toZ-ofZ}
 use mir.Syntax.{w64}
 use mir.Val.{SFits, toZ, ofZ}

@@ -4,7 +4,7 @@ use native.Mathlib.Omega.{arith}
 use Rattle.lines.proofs.Promise.{rounded, is-missing, is-known}
 use Rattle.lines.proofs.SamplingLaws.{isokinetic-no-gas, isokinetic-no-velocity, isokinetic-no-area, isokinetic-still, isokinetic-known, divisor-most, divisor-time-most, divisor-least}
 use native.Mathlib.Nat.{mul-le-mul-left}
-use Prim.Native.Nat.{_+_, _*_, _≤_}
+use Prim.Native.Nat.{_*_, _≤_}
 use Rattle.lines.proofs.results.isokinetic.Statement.{statement}
 use Rattle.lines.proofs.results.isokinetic.Tie as tie
 

@@ -4,7 +4,7 @@ use native.Mathlib.Omega.{arith}
 use Rattle.lines.proofs.Promise.{rounded, is-missing, is-known}
 use Rattle.lines.proofs.SamplingLaws.{area-missing, area-known, square-most, square-least}
 use lib.Dec.{lit<}
-use Prim.Native.Nat.{ℕ, _+_, _*_, _≤_}
+use Prim.Native.Nat.{ℕ, _+_, _≤_}
 use Rattle.lines.proofs.results.nozzle_area.Statement.{statement}
 use Rattle.lines.proofs.results.nozzle_area.Tie as tie
 

@@ -2,7 +2,6 @@
 use borrow.Author.Needs.{needs}
 use mathlib.Core.Path.{ap}
 use native.Mathlib.Omega.{arith}
-use lib.IntN.{ℤ}
 use mir.Facts.{toZ-pos}
 use mir.Syntax.{w64}
 use Rattle.lines.specs.declared.Entry.{Entry}

@@ -2,7 +2,7 @@
 use borrow.Author.Needs.{needs}
 use native.Mathlib.Omega.{arith}
 use Rattle.lines.proofs.SheetLaws.{weighings-ok, is-sampling}
-use mathlib.Core.Path.{_∙_, ap, subst⁻¹}
+use mathlib.Core.Path.{_∙_, subst⁻¹}
 use mir.Facts.{toZ-ofZ}
 use Rattle.lines.specs.Promise.{CatchOk}
 use Rattle.lines.specs.Sampling.{concentration}

@@ -1,6 +1,5 @@
 -- Lines 9 to 15 together: each call's promise, and the ranges that the next one asks.
 use borrow.Author.Needs.{needs}
-use native.Mathlib.Omega.{arith}
 use mathlib.Core.Path.{_∙_, ap}
 use Rattle.lines.specs.Stack.{stackPressure}
 use Rattle.lines.proofs.FlowLaws.{pressure-bits}

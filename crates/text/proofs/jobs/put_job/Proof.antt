@@ -1,9 +1,9 @@
 -- A refusal where the reader meets trouble, and the runs where it meets none.
 use borrow.Author.Needs.{needs}
-use mathlib.Core.Path.{_≡_, ap}
+use mathlib.Core.Path.{_≡_}
 use Prim.Native.Nat.{ℕ}
 use mathlib.Core.List.{List}
-use Rattle.fields.specs.declared.trouble.Trouble.the-variants.{Clear, At}
+use Rattle.fields.specs.declared.trouble.Trouble.the-variants.{At}
 use Rattle.job.specs.declared.Job.{Job}
 use Rattle.job.specs.Reading.{readJob}
 use Rattle.reduction.specs.Reducing.{ClearJob}

@@ -1,9 +1,6 @@
 -- Four parts, one after another.
 use borrow.Author.Needs.{needs}
-use mathlib.Core.Path.{_≡_}
-use Prim.Native.Nat.{ℕ, _+_, _≤_}
 use native.Mathlib.Omega.{arith}
-use lib.ListN.{length}
 use Rattle.text.proofs.Decimals.{decimal-short, decimal-fits}
 use Rattle.text.proofs.SheetTexts.{value-short, wrote-line}
 use Rattle.text.proofs.sheets.put_line.Statement.{statement}

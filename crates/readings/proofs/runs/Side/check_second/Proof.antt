@@ -1,5 +1,4 @@
 -- The shape decides which of the two ranges is asked.
-use mathlib.Core.Path.{_∙_}
 use borrow.Author.Needs.{needs}
 use borrow.Author.Tests.{eq-eqb, ne-eqb}
 use Rattle.readings.proofs.runs.Side.check_second.Statement.{statement}
