@@ -1,7 +1,6 @@
 -- How long the lines of points are, and points written line after line.
 use Prim.Native.Nat.{ℕ, zero, suc, _+_, _*_, _≤_, _<_}
 use mathlib.Core.Path.{_≡_, subst}
-use mathlib.Core.Bool.{Bool, true, false, cond}
 use mathlib.Core.List.{List, _++_}
 use native.Mathlib.Numerals.{add-one}
 use native.Mathlib.Omega.{arith}
@@ -12,16 +11,12 @@ use Rattle.fields.specs.Numbers.{u32At}
 use Rattle.text.specs.Numbers.{decimal, Wrote}
 use Rattle.text.specs.Sheets.{space, newline}
 use Rattle.text.proofs.Decimals.{decimal-short}
-use Rattle.text.proofs.Texts.{wrote-none, wrote-more}
+use Rattle.text.proofs.Texts.{either-short, wrote-none, wrote-more}
 use Rattle.layout.specs.Points.{distanceText, sidesText, pointText, pointsText}
 
 pub distance-short : (d : ℕ) → length (distanceText d) ≤ 21
 unfolding distanceText
 distance-short d = omega (arith, length-append space (decimal d), decimal-short d)
-
-either-short : (test : Bool) (a b : List ℕ) (n : ℕ) → length a ≤ n → length b ≤ n → length (cond test a b) ≤ n
-either-short true a b n h k = h
-either-short false a b n h k = k
 
 pub sides-short : (s : List ℕ) (place sides : ℕ) → length (sidesText s place sides) ≤ 42
 unfolding sidesText

@@ -8,6 +8,7 @@ use layouts::rectangle_layout;
 use layouts::round_layout;
 use libc::STDOUT_FILENO;
 use output::Answer;
+use text::jobs::put_refusal;
 ghost use Prim.Native.Nat.{_*_, _≤_};
 ghost use lib.ListN.{length};
 
@@ -62,11 +63,9 @@ fn complain(wrong: &[u8]) {
 }
 
 fn print_refusal(number: u32, place: u32) {
-    io::write_all(STDOUT_FILENO, b"REFUSED ");
-    io::print_decimal(STDOUT_FILENO, number as u64);
-    io::write_all(STDOUT_FILENO, b" ");
-    io::print_decimal(STDOUT_FILENO, place as u64);
-    io::write_all(STDOUT_FILENO, b"\n");
+    let mut text = io::buffer();
+    let n = put_refusal(&mut text, 0, number, place as usize);
+    io::write_all(STDOUT_FILENO, &text[..n]);
 }
 
 // `count` points of a call's output, each with a distance for each of its sides.

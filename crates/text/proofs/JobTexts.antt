@@ -15,6 +15,15 @@ use Rattle.text.proofs.Decimals.{decimal-short}
 use Rattle.text.proofs.RunTexts.{run-short}
 use Rattle.text.proofs.Texts.{wrote-none, wrote-more}
 
+pub refusal-short : (number place : ℕ) → length (refusalText number place) ≤ 50
+unfolding refusalText
+refusal-short number place =
+    let one = length-append refusedWord (decimal number) in
+    let two = length-append (refusedWord ++ decimal number) space in
+    let three = length-append (refusedWord ++ decimal number ++ space) (decimal place) in
+    let four = length-append (refusedWord ++ decimal number ++ space ++ decimal place) newline in
+    omega (arith, one, two, three, four, decimal-short number, decimal-short place)
+
 -- the five parts of a refusal, one after another
 pub wrote-refusal : {old : List ℕ} {at : ℕ} (number place : ℕ) {a b c d e : List ℕ} {p q r s t : ℕ} → at + 50 ≤ length old →
     Wrote old at refusedWord a p →

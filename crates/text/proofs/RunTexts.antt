@@ -1,7 +1,7 @@
 -- How long findings are, and findings and runs written part after part.
 use Prim.Native.Nat.{ℕ, zero, suc, _+_, _*_, _≤_, _<_}
 use mathlib.Core.Path.{_≡_, subst}
-use mathlib.Core.Bool.{Bool, true, false, cond}
+use mathlib.Core.Bool.{Bool}
 use mathlib.Core.List.{List, _++_}
 use native.Mathlib.Numerals.{add-one}
 use native.Mathlib.Omega.{arith}
@@ -15,11 +15,7 @@ use Rattle.text.specs.Sheets.{space, newline, sheetText}
 use Rattle.text.specs.Runs.{className, findingText, findingsText, standing, runWord, runText}
 use Rattle.text.proofs.Decimals.{decimal-short}
 use Rattle.text.proofs.SheetTexts.{sheet-short}
-use Rattle.text.proofs.Texts.{wrote-none, wrote-more}
-
-either-short : (test : Bool) (a b : List ℕ) (n : ℕ) → length a ≤ n → length b ≤ n → length (cond test a b) ≤ n
-either-short true a b n h k = h
-either-short false a b n h k = k
+use Rattle.text.proofs.Texts.{either-short, wrote-none, wrote-more}
 
 pub class-short : (class : ℕ) → length (className class) ≤ 6
 unfolding className

@@ -1,6 +1,7 @@
 -- Texts written one after another.
 use Prim.Native.Nat.{ℕ, _+_, _/_, _%_, _^_, _≤_, _<_}
 use mathlib.Core.Path.{_≡_, refl, _∙_, ap}
+use mathlib.Core.Bool.{Bool, true, false, cond}
 use mathlib.Core.List.{List, [], _∷_, _++_}
 use native.Mathlib.Omega.{arith}
 use lib.ListN.{length, take, getD, length-append}
@@ -11,6 +12,11 @@ use Rattle.output.specs.Splice.{spliced}
 use Rattle.output.proofs.Splice.{length-spliced, spliced-none, spliced-more}
 use Rattle.text.specs.Numbers.{decimal, Wrote}
 use Rattle.text.proofs.Decimals.{decimal-few, decimal-many}
+
+-- of two texts, whichever it is
+pub either-short : (test : Bool) (a b : List ℕ) (n : ℕ) → length a ≤ n → length b ≤ n → length (cond test a b) ≤ n
+either-short true a b n h k = h
+either-short false a b n h k = k
 
 -- nothing written yet
 pub wrote-none : (old : List ℕ) (at : ℕ) → Wrote old at [] old at

@@ -16,7 +16,7 @@ ghost use Rattle.text.specs.Jobs.{refusalText, runsText, jobText};
 pub const ROOM: usize = 89568;
 
 // A refusal: its number and its place.
-fn put_refusal(out: &mut [u8], at: usize, number: u32, place: usize) -> usize
+pub fn put_refusal(out: &mut [u8], at: usize, number: u32, place: usize) -> usize
     requires { ⌜ at + 50 ≤ length (now out) ⌝ }
     ensures { λ r. ⌜ Wrote (now (out .entry)) at (refusalText number place) (now (out .exit)) r ⌝ }
 {
