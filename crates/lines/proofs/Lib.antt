@@ -5,6 +5,7 @@ pub mod Sums
 pub mod Points
 pub mod MeteringLaws
 pub mod FlowLaws
+pub mod Passes
 pub mod SamplingLaws
 pub mod CatchLaws
 pub mod SheetLaws

@@ -3,5 +3,6 @@ pub mod Promise
 pub mod Metering
 pub mod Stack
 pub mod Sampling
+pub mod Passes
 pub mod Sheet
 pub mod Starred

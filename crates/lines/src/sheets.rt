@@ -11,9 +11,8 @@ use crate::Stack;
 use crate::Value;
 use crate::flow::density_root;
 use crate::flow::dry_weight;
-use crate::flow::mean_root;
+use crate::flow::stack_points;
 use crate::flow::stack_pressure;
-use crate::flow::stack_temperature;
 use crate::flow::velocity;
 use crate::flow::wet_weight;
 use crate::results::catch;
@@ -23,12 +22,10 @@ use crate::results::isokinetic;
 use crate::results::nozzle_area;
 use crate::volumes::corrected_volume;
 use crate::volumes::dry_volume;
-use crate::volumes::mean_orifice;
+use crate::volumes::meter_points;
 use crate::volumes::meter_pressure;
-use crate::volumes::meter_temperature;
 use crate::volumes::metered_volume;
 use crate::volumes::moisture;
-use crate::volumes::time;
 use crate::volumes::water_vapor;
 use records::Point;
 use records::Run;
@@ -49,11 +46,12 @@ pub fn metering(run: Run, y: Value) -> Metering
     let points = run.points;
     let segments = run.segments;
     let n = run.counts.points as usize;
-    let t = time(points, n);
+    let read = meter_points(points, n);
+    let t = read.time;
     let v = metered_volume(run.first, run.last);
     let corrected = corrected_volume(t, v, segments, run.counts.segments as usize);
-    let pressure = meter_pressure(run.pb as u64, mean_orifice(points, n));
-    let temperature = meter_temperature(points, n);
+    let pressure = meter_pressure(run.pb as u64, read.orifice);
+    let temperature = read.temperature;
     let dry = dry_volume(corrected, y, pressure, temperature);
     let vapor = water_vapor(run.water as u64);
     Metering {
@@ -89,8 +87,9 @@ pub fn stack(
     let dry = dry_weight(co2, o2);
     let wet = wet_weight(dry, moisture);
     let pressure = stack_pressure(pb, pg);
-    let temperature = stack_temperature(points, n);
-    let root = mean_root(points, n);
+    let read = stack_points(points, n);
+    let temperature = read.temperature;
+    let root = read.root;
     let density = density_root(wet, pressure, temperature);
     Stack {
         dry,

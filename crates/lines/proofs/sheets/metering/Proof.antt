@@ -8,8 +8,8 @@ use Rattle.lines.proofs.sheets.metering.Tie as tie
 cast-n : tie.Need-cast-n
 cast-n c = omega (arith, points-ok _ (c .before .before .before .pre .0) .few)
 
-time-requires : tie.Need-time-requires
-time-requires c κs = (points-ok _ (c .before .before .before .pre .0), time-most _ (c .before .before .before .pre .0))
+meter-points-requires : tie.Need-meter-points-requires
+meter-points-requires c κs = (points-ok _ (c .before .before .before .pre .0), time-most _ (c .before .before .before .pre .0))
 
 metered-volume-requires : tie.Need-metered-volume-requires
 metered-volume-requires c κs = readings-apart _ (c .before .before .before .before .pre .0)
@@ -19,31 +19,25 @@ cast-corrected-volume c = omega (arith, segments-ok _ (c .before .before .before
 
 corrected-volume-requires : tie.Need-corrected-volume-requires
 corrected-volume-requires c κs =
-    let t = c .before .before .time .ensures in
+    let t = c .before .before .meter-points .ensures .time in
     ((t .low, t .high, c .before .metered-volume .ensures .high), segments-ok _ (c .before .before .before .before .before .before .pre .0))
 
 cast-meter-pressure : tie.Need-cast-meter-pressure
 cast-meter-pressure c = search needs
 
-mean-orifice-requires : tie.Need-mean-orifice-requires
-mean-orifice-requires c κs = points-ok _ (c .before .before .before .before .before .before .before .before .pre .0)
-
 meter-pressure-requires : tie.Need-meter-pressure-requires
 meter-pressure-requires c κs =
-    let pb = pb-range _ (c .before .before .before .before .before .before .before .before .before .pre .0) in
-    (pb .0, pb .1, c .mean-orifice .ensures .high)
-
-meter-temperature-requires : tie.Need-meter-temperature-requires
-meter-temperature-requires c κs = points-ok _ (c .before .before .before .before .before .before .before .before .before .before .pre .0)
+    let pb = pb-range _ (c .before .before .before .before .before .before .before .before .pre .0) in
+    (pb .0, pb .1, c .before .before .before .before .meter-points .ensures .orifice .high)
 
 dry-volume-requires : tie.Need-dry-volume-requires
 dry-volume-requires c κs = search needs
 
 cast-water-vapor : tie.Need-cast-water-vapor
-cast-water-vapor c = omega (arith, water-most _ (c .before .before .before .before .before .before .before .before .before .before .before .before .before .pre .0))
+cast-water-vapor c = omega (arith, water-most _ (c .before .before .before .before .before .before .before .before .before .before .before .pre .0))
 
 water-vapor-requires : tie.Need-water-vapor-requires
-water-vapor-requires c κs = water-most _ (c .before .before .before .before .before .before .before .before .before .before .before .before .before .pre .0)
+water-vapor-requires c κs = water-most _ (c .before .before .before .before .before .before .before .before .before .before .before .pre .0)
 
 moisture-requires : tie.Need-moisture-requires
 moisture-requires c κs = search needs
@@ -52,12 +46,13 @@ returns : tie.Need-returns
 returns c =
     let vapor = c .before .water-vapor .ensures in
     let dry = c .before .before .before .dry-volume .ensures in
-    let temperature = c .before .before .before .before .meter-temperature .ensures in
-    let pressure = c .before .before .before .before .before .meter-pressure .ensures in
-    let corrected = c .before .before .before .before .before .before .before .before .corrected-volume .ensures in
-    let v = c .before .before .before .before .before .before .before .before .before .before .metered-volume .ensures in
-    let t = c .before .before .before .before .before .before .before .before .before .before .before .time .ensures in (
-      is-metering _ _ (t .is) (v .is) (corrected .is) (c .before .before .before .before .before .before .mean-orifice .ensures .is) (pressure .is) (temperature .is) (dry .is) (vapor .is) (c .moisture .ensures .is),
+    let pressure = c .before .before .before .before .meter-pressure .ensures in
+    let corrected = c .before .before .before .before .before .before .corrected-volume .ensures in
+    let v = c .before .before .before .before .before .before .before .before .metered-volume .ensures in
+    let points = c .before .before .before .before .before .before .before .before .before .meter-points .ensures in
+    let t = points .time in
+    let temperature = points .temperature in (
+      is-metering _ _ (t .is) (v .is) (corrected .is) (points .orifice .is) (pressure .is) (temperature .is) (dry .is) (vapor .is) (c .moisture .ensures .is),
       record {
         timeLeast = t .low;
         timeMost = t .high;
@@ -76,14 +71,12 @@ metering-spec =
     tie.close
     (tie.spec
     cast-n
-    time-requires
+    meter-points-requires
     metered-volume-requires
     cast-corrected-volume
     corrected-volume-requires
     cast-meter-pressure
-    mean-orifice-requires
     meter-pressure-requires
-    meter-temperature-requires
     dry-volume-requires
     cast-water-vapor
     water-vapor-requires

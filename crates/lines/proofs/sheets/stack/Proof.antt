@@ -16,11 +16,8 @@ wet-weight-requires c κs = search needs
 stack-pressure-requires : tie.Need-stack-pressure-requires
 stack-pressure-requires c κs = search needs
 
-stack-temperature-requires : tie.Need-stack-temperature-requires
-stack-temperature-requires c κs = search needs
-
-mean-root-requires : tie.Need-mean-root-requires
-mean-root-requires c κs = search needs
+stack-points-requires : tie.Need-stack-points-requires
+stack-points-requires c κs = search needs
 
 density-root-requires : tie.Need-density-root-requires
 density-root-requires c κs = search needs
@@ -31,12 +28,13 @@ velocity-requires c κs = search needs
 returns : tie.Need-returns
 returns c =
     let density = c .before .density-root .ensures in
-    let root = c .before .before .mean-root .ensures in
-    let temperature = c .before .before .before .stack-temperature .ensures in
-    let pressure = c .before .before .before .before .stack-pressure .ensures in
-    let wet = c .before .before .before .before .before .wet-weight .ensures in
-    let dry = c .before .before .before .before .before .before .dry-weight .ensures in
-    let ground = c .before .before .before .before .before .before .before .pre .1 .1 .0 in (
+    let points = c .before .before .stack-points .ensures in
+    let root = points .root in
+    let temperature = points .temperature in
+    let pressure = c .before .before .before .stack-pressure .ensures in
+    let wet = c .before .before .before .before .wet-weight .ensures in
+    let dry = c .before .before .before .before .before .dry-weight .ensures in
+    let ground = c .before .before .before .before .before .before .pre .1 .1 .0 in (
       is-stack _ _ _ _ _ _ _ _ (dry .is) (wet .is) (pressure .is ∙ ap (stackPressure _) (pressure-bits _ ground)) (temperature .is) (root .is) (density .is) (c .velocity .ensures .is),
       record {
         dry = dry .high;
@@ -58,8 +56,7 @@ stack-spec =
     dry-weight-requires
     wet-weight-requires
     stack-pressure-requires
-    stack-temperature-requires
-    mean-root-requires
+    stack-points-requires
     density-root-requires
     velocity-requires
     returns)
