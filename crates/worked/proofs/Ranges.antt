@@ -1,29 +1,24 @@
 -- The worked run is in range, as every run of a job that is read is; so are the values of its certificates.
 use Prim.Native.Nat.{ℕ, _≤_}
-use mathlib.Core.Path.{_≡_, refl, subst}
+use mathlib.Core.Path.{_≡_, refl, sym, _∙_, ap, subst}
 use native.Mathlib.Omega.{arith}
 use Rattle.fields.specs.declared.trouble.Trouble.the-variants.{Clear}
-use Rattle.fields.specs.Numbers.{u16At, u32At, i16At}
-use Rattle.fields.specs.Trouble.{first, checks, upTo}
-use Rattle.readings.specs.Ranges.{within, signedWithin}
-use Rattle.records.specs.Records.{sameIdentity, sumTo}
+use Rattle.fields.specs.Numbers.{u16At}
 use Rattle.records.specs.InRange.{RunOk}
 use Rattle.records.specs.Worked.{workedRun}
 use Rattle.lines.specs.declared.Value.the-variants.{Known}
 use Rattle.lines.specs.declared.Diameters.the-variants.{Measured}
 use Rattle.lines.specs.Promise.{Workable, Between, DiametersOk}
-use Rattle.parts.specs.Arrays.{padded}
-use Rattle.parts.specs.Values.{runAt}
-use Rattle.parts.specs.Rows.{recordTrouble}
-use Rattle.job.specs.Places.{runStart, runCountOf}
-use Rattle.job.specs.Troubles.{anyTo, partsTrouble, runTrouble, numberBefore, jobTrouble}
+use Rattle.job.specs.declared.Job.{Job}
+use Rattle.job.specs.Places.{runCountOf}
+use Rattle.job.specs.Troubles.{jobTrouble}
 use Rattle.job.specs.Worked.{workedJob}
 use Rattle.job.proofs.ClearJobs.{clear-run}
+use Rattle.job.proofs.WholeFile.{trouble-of}
 use Rattle.job.proofs.Examples.{worked}
 
 read : jobTrouble workedJob ≡ Clear
-unfolding u16At u32At i16At first checks upTo within signedWithin sameIdentity sumTo padded runAt recordTrouble runStart anyTo partsTrouble runTrouble numberBefore jobTrouble
-read = refl
+read = sym (trouble-of workedJob) ∙ ap (λ (j : Job). j .trouble) (worked .0)
 
 one-run : runCountOf workedJob ≡ 1
 unfolding u16At
