@@ -14,17 +14,6 @@ ghost use lib.ListN.{length};
 ghost use Rattle.parts.specs.Values.{certificatePlace, certificateOf};
 ghost use Rattle.certs.specs.Choosing.{soDated, nearer, eligible, keep, chosen, chosenFor};
 
-// What a certificate is of.
-pub struct Kind;
-
-impl Kind {
-    pub const METER: u8 = 1;
-
-    pub const PITOT: u8 = 2;
-
-    pub const NOZZLE: u8 = 3;
-}
-
 // What a search for a certificate answers.
 pub enum Lookup {
     Found(Certificate),
@@ -108,9 +97,9 @@ pub fn choose_all(s: &[u8], count: usize, run: Run) -> Chosen
     ensures { λ r. ⌜ r ≡ chosenFor (certificateOf (now (s .entry))) count run ⌝ }
 {
     Chosen {
-        before: choose(s, count, Kind::METER, run.meter, run.day, false),
-        after: choose(s, count, Kind::METER, run.meter, run.day, true),
-        pitot: choose(s, count, Kind::PITOT, run.pitot, run.day, false),
-        nozzle: choose(s, count, Kind::NOZZLE, run.nozzle, run.day, false),
+        before: choose(s, count, certificate::METER, run.meter, run.day, false),
+        after: choose(s, count, certificate::METER, run.meter, run.day, true),
+        pitot: choose(s, count, certificate::PITOT, run.pitot, run.day, false),
+        nozzle: choose(s, count, certificate::NOZZLE, run.nozzle, run.day, false),
     }
 }

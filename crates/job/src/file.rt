@@ -9,9 +9,9 @@ ghost use Prim.Native.Nat.{_≤_};
 ghost use lib.ListN.{length};
 ghost use Rattle.job.specs.Troubles.{marked, fileTrouble};
 
-pub const SIZE: usize = 9;
+const SIZE: usize = 9;
 
-pub const VERSION: u16 = 1;
+const VERSION: u16 = 1;
 
 // Where the two counts stand.
 pub const CERTIFICATES_AT: usize = 5;
