@@ -41,45 +41,54 @@ mul-tail-2 c = search needs
 tail-requires-4 : tie.Need-tail-requires-4
 tail-requires-4 c κs = search needs
 
--- the counts that were read are those of the file's header
-counts-read : (c : tie.After-header) → c .header .result .counts ≡ headerAt (c .before .before .before .args .s .now) (c .before .before .before .args .start) .counts
-counts-read c = λ i. (c .header .ensures ∙ ap header (c .before .tail .ensures)) i .counts
+-- What was read, and where each list begins
+
+abbrev header-of : tie.After-tail2 → tie.After-header
+header-of c = c .before .before .before .before .before
+
+abbrev start-of : tie.After-tail2 → tie.Start
+start-of c = header-of c .before .before .before
+
+-- the counts are those of the file's header
+counts-read : (c : tie.After-tail2) → header-of c .header .result .counts ≡ headerAt (start-of c .args .s .now) (start-of c .args .start) .counts
+counts-read c =
+    let read = header-of c in
+    λ i. (read .header .ensures ∙ ap header (read .before .tail .ensures)) i .counts
+
+points-at : (c : tie.After-tail2) → c .tail2 .result .now ≡ drop (start-of c .args .start + 64) (start-of c .args .s .now)
+points-at c = further (start-of c .args .s .now) (start-of c .args .start) 64 (c .tail2 .ensures) (header-of c .before .tail .ensures)
+
+segments-at :
+    (c : tie.After-tail3)
+    → c .tail3 .result .now ≡ drop (pointPlace (start-of (c .before) .args .start) (header-of (c .before) .header .result .counts .points)) (start-of (c .before) .args .s .now)
+segments-at c = further (start-of (c .before) .args .s .now) (start-of (c .before) .args .start + 64) _ (c .tail3 .ensures) (points-at (c .before))
+
+weighings-at :
+    (c : tie.After-tail4)
+    → c .tail4 .result .now ≡ drop (segmentPlace (start-of (c .before .before) .args .start) (header-of (c .before .before) .header .result .counts) (header-of (c .before .before) .header .result .counts .segments)) (start-of (c .before .before) .args .s .now)
+weighings-at c =
+    let points = c .before .before in
+    further (start-of points .args .s .now) (pointPlace (start-of points .args .start) (header-of points .header .result .counts .points)) _ (c .tail4 .ensures) (segments-at (c .before))
 
 points-requires : tie.Need-points-requires
 points-requires c κs =
-    let at-points = c .before .before .before .before .before .before .before in
-    let read = at-points .before .before .before .before .before in
-    let start = read .before .before .before in
-    let s = start .args .s .now in
-    let a = start .args .start in
-    let rest1 = further s a 64 (at-points .tail2 .ensures) (read .before .tail .ensures) in
-    (points-few s a (start .pre) (counts-read read), points-left s a (start .pre) (counts-read read) rest1)
+    let points = c .before .before .before .before .before .before .before in
+    let within = start-of points .pre in
+    (points-few _ _ within (counts-read points), points-left _ _ within (counts-read points) (points-at points))
 
 segments-requires : tie.Need-segments-requires
 segments-requires c κs =
-    let at-segments = c .before .before .before .before .before .before .before in
-    let at-points = at-segments .before in
-    let read = at-points .before .before .before .before .before in
-    let start = read .before .before .before in
-    let s = start .args .s .now in
-    let a = start .args .start in
-    let rest1 = further s a 64 (at-points .tail2 .ensures) (read .before .tail .ensures) in
-    let rest2 = further s (a + 64) _ (at-segments .tail3 .ensures) rest1 in
-    (segments-few s a (start .pre) (counts-read read), segments-left s a (start .pre) (counts-read read) rest2)
+    let segments = c .before .before .before .before .before .before .before in
+    let within = start-of (segments .before) .pre in
+    let n = counts-read (segments .before) in
+    (segments-few _ _ within n, segments-left _ _ within n (segments-at segments))
 
 weighings-requires : tie.Need-weighings-requires
 weighings-requires c κs =
-    let at-weighings = c .before .before .before .before .before .before .before in
-    let at-segments = at-weighings .before in
-    let at-points = at-segments .before in
-    let read = at-points .before .before .before .before .before in
-    let start = read .before .before .before in
-    let s = start .args .s .now in
-    let a = start .args .start in
-    let rest1 = further s a 64 (at-points .tail2 .ensures) (read .before .tail .ensures) in
-    let rest2 = further s (a + 64) _ (at-segments .tail3 .ensures) rest1 in
-    let rest3 = further s (pointPlace a (read .header .result .counts .points)) _ (at-weighings .tail4 .ensures) rest2 in
-    (weighings-few s a (start .pre) (counts-read read), weighings-left s a (start .pre) (counts-read read) rest3)
+    let weighings = c .before .before .before .before .before .before .before in
+    let within = start-of (weighings .before .before) .pre in
+    let n = counts-read (weighings .before .before) in
+    (weighings-few _ _ within n, weighings-left _ _ within n (weighings-at weighings))
 
 returns : tie.Need-returns
 unfolding runAt
@@ -90,17 +99,13 @@ returns c =
     let at-weighings = points .before .before .before .before .before .before in
     let at-segments = at-weighings .before in
     let at-points = at-segments .before in
-    let read = at-points .before .before .before .before .before in
-    let start = read .before .before .before in
-    let s = start .args .s .now in
-    let a = start .args .start in
+    let read = header-of at-points in
+    let s = start-of at-points .args .s .now in
+    let a = start-of at-points .args .start in
     let h = read .header .ensures ∙ ap header (read .before .tail .ensures) in
-    let n = counts-read read in
-    let rest1 = further s a 64 (at-points .tail2 .ensures) (read .before .tail .ensures) in
-    let rest2 = further s (a + 64) _ (at-segments .tail3 .ensures) rest1 in
-    let rest3 = further s (pointPlace a (read .header .result .counts .points)) _ (at-weighings .tail4 .ensures) rest2 in
-    let moved2 = rest2 ∙ ap (λ (k : Counts). drop (pointPlace a (k .points)) s) n in
-    let moved3 = rest3 ∙ ap (λ (k : Counts). drop (segmentPlace a k (k .segments)) s) n in
+    let n = counts-read at-points in
+    let moved2 = segments-at at-segments ∙ ap (λ (k : Counts). drop (pointPlace a (k .points)) s) n in
+    let moved3 = weighings-at at-weighings ∙ ap (λ (k : Counts). drop (segmentPlace a k (k .segments)) s) n in
     λ i.
     record {
       number = h i .number;
@@ -118,7 +123,7 @@ returns c =
       site = h i .site;
       acetone = h i .acetone;
       counts = h i .counts;
-      points = filled 64 noPoint point 12 s (a + 64) (points .points .ensures) rest1 (λ j. n j .points) i;
+      points = filled 64 noPoint point 12 s (a + 64) (points .points .ensures) (points-at at-points) (λ j. n j .points) i;
       segments = filled 16 noSegment segment 4 s (pointPlace a (headerAt s a .counts .points)) (segments .segments .ensures) moved2 (λ j. n j .segments) i;
       weighings = filled 8 noWeighing weighing 14 s (segmentPlace a (headerAt s a .counts) (headerAt s a .counts .segments)) (weighings .weighings .ensures) moved3 (λ j. n j .weighings) i;
     }
