@@ -1,5 +1,6 @@
-// The twenty lines of the calculation sheet. Each is a function of its own, promised to be its equation of the paper
-// and to lie in a range; a line relies on the promises of the lines that it names and on nothing inside them.
+// The twenty lines of the calculation sheet. Each is promised to be its equation of the paper and to lie in a range; a
+// line relies on the promises of the lines that it names and on nothing inside them. What is summed over the points comes
+// from two passes, one for the meter and one for the stack; every other line is a function of its own.
 
 pub mod flow;
 pub mod results;
