@@ -1,14 +1,14 @@
 -- The laws of the choice: what it answers, when it answers nothing, and that only the certificates of its kind, maker and serial count.
-use Prim.Native.Nat.{ℕ, zero, suc, _+_, _<_}
+use Prim.Native.Nat.{ℕ, zero, suc, _+_, _≤_, _<_}
 use mathlib.Core.Path.{_≡_, refl, sym, _∙_, ap}
-use mathlib.Core.Bool.{Bool, true, false, false≢true, cond}
+use mathlib.Core.Bool.{Bool, true, false, true≢false, false≢true, cond, not, _&&_, _||_}
 use mathlib.Core.Logic.{_⊎_, inl, inr, _↔_}
 use native.Mathlib.Nat.{lt-suc-self, lt-trans, le-antisymm, le-trans, le-of-lt, le-refl}
 use native.Mathlib.Numerals.{add-one}
 use native.Mathlib.Omega.{arith}
 use borrow.Author.Count.{below-none, below-more}
 use borrow.Author.Tests.{eqb-true, eq-eqb, leb-true, le-leb, ltb-true, ltb-false, lt-ltb}
-use lib.Dec.{eqb}
+use lib.Dec.{eqb, ltb}
 use Rattle.records.specs.declared.Identity.{Identity}
 use Rattle.records.specs.declared.Certificate.{Certificate}
 use Rattle.records.specs.declared.Run.{Run}
@@ -16,34 +16,76 @@ use Rattle.records.specs.Records.{sameIdentity}
 use Rattle.records.proofs.Identities.{both-left, both-right, same-equal, same-refl}
 use Rattle.certs.specs.declared.Lookup.{Lookup}
 use Rattle.certs.specs.declared.Lookup.the-variants.{Found, Nothing}
-use Rattle.certs.specs.Choosing.{soDated, nearer, eligible, keep, chosen, chosenFor, meter, pitot, nozzle, Dated, NoNearer, Eligible, NoneSoDated, Nearest, Unique, Included, SameMembers, SameForRun}
+use Rattle.certs.specs.Choosing.{soDated, nearer, eligible, keep, replaces, chosen, chosenFor, meter, pitot, nozzle, Dated, NoNearer, Eligible, NoneSoDated, Nearest, Unique, Included, SameMembers, SameForRun}
 
--- One more certificate: for the loop that looks at each in turn
+-- where a best was found, the nearer one counts
+where-found : (k : ℕ) (near : Bool) → (not (ltb 0 (suc k)) || near) ≡ near
+where-found k near = rw (lt-ltb 0 (suc k) (omega arith))
+
+-- The loop that looks at each certificate in turn
 module _ (after : Bool) (kind : ℕ) (identity : Identity) (day : ℕ) (f : ℕ → Certificate) where
-  pub chosen-none : Nothing ≡ chosen after kind identity day f 0
-  unfolding chosen
-  chosen-none = refl
+  -- the best so far, by how many certificates there are up to it, 0 for none
+  abbrev pub lookupAt : ℕ → Lookup
+  lookupAt zero = Nothing
+  lookupAt (suc k) = Found (f k)
 
-  pub chosen-nearer :
-      (n : ℕ) {best next : Lookup} {c : Certificate} {test : Bool}
-      → best ≡ chosen after kind identity day f n
+  -- it is the choice among the first n, and `nearest` is its day
+  pub record Best (n best nearest : ℕ) : Type 0 where
+    pub within : best ≤ n
+    pub is : lookupAt best ≡ chosen after kind identity day f n
+    pub dated : (k : ℕ) → best ≡ suc k → nearest ≡ f k .day
+
+  pub best-none : (nearest : ℕ) → Best 0 0 nearest
+  unfolding chosen
+  best-none nearest = record { within = le-refl 0; is = refl; dated = λ k e. absurd (omega (arith, e)) }
+
+  -- one more, which takes its place ..
+  pub best-replaced :
+      (n : ℕ) {best nearest : ℕ} {c : Certificate} {test : Bool}
+      → Best n best nearest
       → c ≡ f n
-      → test ≡ eligible after kind identity day c
+      → test ≡ replaces after kind identity day (ltb 0 best) nearest c
       → test ≡ true
-      → next ≡ keep after best c
-      → next ≡ chosen after kind identity day f (n + 1)
-  unfolding chosen
-  chosen-nearer n e own t passed k = rw (add-one, ← own, ← t, passed, ← e) k
+      → Best (n + 1) (n + 1) (c .day)
+  unfolding chosen keep
+  best-replaced n {best} {nearest} {c} b own t taken =
+      record { within = le-refl (n + 1); is = rw (add-one n) (took best (b .is) (b .dated) tests); dated = dated }
+    where
+      tests : replaces after kind identity day (ltb 0 best) nearest (f n) ≡ true
+      tests = ap (replaces after kind identity day (ltb 0 best) nearest) (sym own) ∙ sym t ∙ taken
 
-  pub chosen-passed :
-      (n : ℕ) {best : Lookup} {c : Certificate} {test : Bool}
-      → best ≡ chosen after kind identity day f n
+      dated : (k : ℕ) → n + 1 ≡ suc k → c .day ≡ f k .day
+      dated k e =
+          let same : n ≡ k = omega (arith, e) in
+          ap (λ (a : Certificate). a .day) own ∙ ap (λ i. f i .day) same
+
+      took : (m : ℕ) → lookupAt m ≡ chosen after kind identity day f n → ((k : ℕ) → m ≡ suc k → nearest ≡ f k .day) → replaces after kind identity day (ltb 0 m) nearest (f n) ≡ true → Found (f n) ≡ chosen after kind identity day f (suc n)
+      took zero is on e = rw (both-left (eligible after kind identity day (f n)) _ e, ← is)
+      took (suc k) is on e =
+          let near = sym (where-found k _) ∙ both-right (eligible after kind identity day (f n)) _ e in
+          rw (both-left (eligible after kind identity day (f n)) _ e, ← is, ← on k refl, near)
+
+  -- .. or does not
+  pub best-kept :
+      (n : ℕ) {best nearest : ℕ} {c : Certificate} {test : Bool}
+      → Best n best nearest
       → c ≡ f n
-      → test ≡ eligible after kind identity day c
+      → test ≡ replaces after kind identity day (ltb 0 best) nearest c
       → test ≡ false
-      → best ≡ chosen after kind identity day f (n + 1)
-  unfolding chosen
-  chosen-passed n e own t failed = rw (add-one, ← own, ← t, failed) e
+      → Best (n + 1) best nearest
+  unfolding chosen keep
+  best-kept n {best} {nearest} {c} b own t left =
+      record { within = omega (arith, b .within); is = rw (add-one n) (kept best (b .is) (b .dated) (eligible after kind identity day (f n)) refl tests); dated = b .dated }
+    where
+      tests : replaces after kind identity day (ltb 0 best) nearest (f n) ≡ false
+      tests = ap (replaces after kind identity day (ltb 0 best) nearest) (sym own) ∙ sym t ∙ left
+
+      kept : (m : ℕ) → lookupAt m ≡ chosen after kind identity day f n → ((k : ℕ) → m ≡ suc k → nearest ≡ f k .day) → (e : Bool) → eligible after kind identity day (f n) ≡ e → (e && (not (ltb 0 m) || nearer after nearest (f n .day))) ≡ false → lookupAt m ≡ chosen after kind identity day f (suc n)
+      kept m is on false not-so e = rw not-so is
+      kept zero is on true so e = absurd (true≢false e)
+      kept (suc k) is on true so e =
+          let far = sym (where-found k _) ∙ e in
+          rw (so, ← is, ← on k refl, far)
 
 -- The tests of the definition and the words of the paper say the same
 dated-true : (after : Bool) (day dated : ℕ) → soDated after day dated ≡ true → Dated after day dated

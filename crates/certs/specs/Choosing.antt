@@ -1,7 +1,7 @@
 -- Choosing certificates: kind, maker and serial all count, and one before or after the run's day.
 use Prim.Native.Nat.{ℕ, zero, suc, _≤_, _<_}
 use mathlib.Core.Path.{_≡_}
-use mathlib.Core.Bool.{Bool, true, false, cond, _&&_}
+use mathlib.Core.Bool.{Bool, true, false, cond, not, _&&_, _||_}
 use lib.Dec.{leb, ltb, eqb}
 use Rattle.records.specs.declared.Identity.{Identity}
 use Rattle.records.specs.declared.Certificate.{Certificate}
@@ -40,6 +40,11 @@ eligible after kind identity day c =
 unfoldable pub keep : Bool → Lookup → Certificate → Lookup
 keep after Nothing c = Found c
 keep after (Found b) c = cond (nearer after (b .day) (c .day)) (Found c) (Found b)
+
+-- one certificate more takes the place of the best so far: so dated, and nearer where a best was found
+abbrev pub replaces : Bool → ℕ → Identity → ℕ → Bool → ℕ → Certificate → Bool
+replaces after kind identity day found nearest c =
+    eligible after kind identity day c && (not found || nearer after nearest (c .day))
 
 -- Of the first n certificates: before, the latest dated on or before the day; after, the earliest dated later
 unfoldable pub chosen : Bool → ℕ → Identity → ℕ → (ℕ → Certificate) → ℕ → Lookup

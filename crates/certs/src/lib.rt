@@ -12,7 +12,7 @@ ghost use mathlib.Core.Path.{_≡_};
 ghost use Prim.Native.Nat.{_≤_};
 ghost use lib.ListN.{length};
 ghost use Rattle.parts.specs.Values.{certificatePlace, certificateOf};
-ghost use Rattle.certs.specs.Choosing.{soDated, nearer, eligible, keep, chosen, chosenFor};
+ghost use Rattle.certs.specs.Choosing.{soDated, nearer, eligible, replaces, chosen, chosenFor};
 
 // What a search for a certificate answers.
 pub enum Lookup {
@@ -61,34 +61,48 @@ fn is_eligible(c: Certificate, kind: u8, identity: Identity, day: u16, after: bo
     so_dated(day, c.day, after)
 }
 
-// What is kept of the best so far and one certificate more.
-fn keep_nearer(best: Lookup, c: Certificate, after: bool) -> Lookup
-    ensures { λ r. ⌜ r ≡ keep after best c ⌝ }
+// Whether a certificate takes the place of the best so far, which is dated `nearest` where there is one.
+fn replaces(
+    c: Certificate,
+    kind: u8,
+    identity: Identity,
+    day: u16,
+    after: bool,
+    found: bool,
+    nearest: u16,
+) -> bool
+    ensures { λ r. ⌜ r ≡ replaces after kind identity day found nearest c ⌝ }
 {
-    let Lookup::Found(b) = best else {
-        return Lookup::Found(c);
-    };
-    if nearer_day(b.day, c.day, after) {
-        return Lookup::Found(c);
+    if !is_eligible(c, kind, identity, day, after) {
+        return false;
     }
-    best
+    if !found {
+        return true;
+    }
+    nearer_day(nearest, c.day, after)
 }
 
 // Of the first `count` certificates of a file, the one of that kind and identity that is dated nearest the day, on the asked side of it.
+// The best so far is kept as how many certificates there are up to it, 0 for none, and its day.
 pub fn choose(s: &[u8], count: usize, kind: u8, identity: Identity, day: u16, after: bool) -> Lookup
     requires { ⌜ certificatePlace count ≤ length (now s) ⌝ }
     ensures { λ r. ⌜ r ≡ chosen after kind identity day (certificateOf (now (s .entry))) count ⌝ }
 {
-    let mut best = Lookup::Nothing;
-    let mut i = 0;
+    let mut best: usize = 0;
+    let mut nearest: u16 = 0;
+    let mut i: usize = 0;
     while i < count {
         let c = certificate::nth(s, i);
-        if is_eligible(c, kind, identity, day, after) {
-            best = keep_nearer(best, c, after);
-        }
         i += 1;
+        if replaces(c, kind, identity, day, after, 0 < best, nearest) {
+            best = i;
+            nearest = c.day;
+        }
     }
-    best
+    if best == 0 {
+        return Lookup::Nothing;
+    }
+    Lookup::Found(certificate::nth(s, best - 1))
 }
 
 // The certificates of a run among the first `count` of its file, each found through `choose`.
