@@ -150,6 +150,15 @@ impl Instrument {
 }
 
 impl Certificate {
+    pub fn new(kind: Kind, instrument: Instrument, day: u16, values: [u16; 3]) -> Self {
+        Certificate {
+            kind,
+            instrument,
+            day,
+            values,
+        }
+    }
+
     fn append_to(&self, bytes: &mut Vec<u8>) {
         bytes.push(self.kind as u8);
         self.instrument.append_to(bytes);

@@ -34,35 +34,15 @@ pub fn worked() -> Job {
 }
 
 fn meter(instrument: Instrument, day: u16, factor: u16) -> Certificate {
-    let kind = Kind::Meter;
-    let values = [factor, 0, 0];
-    Certificate {
-        kind,
-        instrument,
-        day,
-        values,
-    }
+    Certificate::new(Kind::Meter, instrument, day, [factor, 0, 0])
 }
 
 fn pitot(instrument: Instrument, day: u16, coefficient: u16) -> Certificate {
-    let kind = Kind::Pitot;
-    let values = [coefficient, 0, 0];
-    Certificate {
-        kind,
-        instrument,
-        day,
-        values,
-    }
+    Certificate::new(Kind::Pitot, instrument, day, [coefficient, 0, 0])
 }
 
 fn nozzle(instrument: Instrument, day: u16, values: [u16; 3]) -> Certificate {
-    let kind = Kind::Nozzle;
-    Certificate {
-        kind,
-        instrument,
-        day,
-        values,
-    }
+    Certificate::new(Kind::Nozzle, instrument, day, values)
 }
 
 fn weighing(kind: WeighingKind, tare: u32, first_final: u32, second_final: u32) -> Weighing {

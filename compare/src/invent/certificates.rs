@@ -49,16 +49,7 @@ fn certify_meter(random: &mut Random, list: &mut Vec<Certificate>, run: &Run, st
     let before = values(random, Kind::Meter, style);
     let mut add = |day: i64, values: [u16; 3]| {
         if let Ok(day) = u16::try_from(day) {
-            let (kind, instrument) = (Kind::Meter, run.meter);
-            add_new(
-                list,
-                Certificate {
-                    kind,
-                    instrument,
-                    day,
-                    values,
-                },
-            );
+            add_new(list, Certificate::new(Kind::Meter, run.meter, day, values));
         }
     };
     let day = i64::from(run.day);
@@ -95,15 +86,7 @@ fn certify(
     }
     let day = run_day.saturating_sub(random.pick(&[0, 1, 10]));
     let values = values(random, kind, style);
-    add_new(
-        list,
-        Certificate {
-            kind,
-            instrument,
-            day,
-            values,
-        },
-    );
+    add_new(list, Certificate::new(kind, instrument, day, values));
 }
 
 /// One that a careless match would take: right in most of kind, maker, serial

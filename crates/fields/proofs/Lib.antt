@@ -1,4 +1,3 @@
 -- The laws of numbers and of trouble, which the layers above cite.
-pub mod EarlyAnswers
 pub mod FirstTrouble
 pub mod Tails

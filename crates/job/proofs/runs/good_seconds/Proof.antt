@@ -7,7 +7,7 @@ use borrow.Author.Needs.{needs}
 use native.Mathlib.Omega.{arith}
 use lib.Dec.{eqb}
 use lib.ListN.{length}
-use Rattle.fields.proofs.EarlyAnswers.{fails, passes}
+use Rattle.records.proofs.EarlyAnswers.{fails, passes}
 use Rattle.readings.specs.Ranges.{totalSeconds}
 use Rattle.parts.specs.Values.{point, segment}
 use Rattle.parts.proofs.Places.{enough, summed}

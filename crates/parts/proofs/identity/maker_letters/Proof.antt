@@ -1,7 +1,7 @@
 -- Each early answer is the first letter that is none.
 use borrow.Author.Tests.{not-true, not-false}
 use borrow.Author.Needs.{needs}
-use Rattle.fields.proofs.EarlyAnswers.{fails, passes}
+use Rattle.records.proofs.EarlyAnswers.{fails, passes}
 use Rattle.parts.proofs.identity.maker_letters.Statement.{statement}
 use Rattle.parts.proofs.identity.maker_letters.Tie as tie
 
