@@ -2,10 +2,10 @@
 //
 // A request is a header of 16 bytes, then the job's bytes:
 //
-//     0       the call: 1 reduce, 2 run_count, 3 run_number, 4 round_layout, 5 rect_layout
+//     0       the call: 1 reduce, 2 run_count, 3 run_number, 4 round_layout, 5 rect_layout, 6 sheet_text
 //     1       what every byte of both outputs is before the call
 //     2 to 7  three u16, in the order in which the call takes its numbers
-//     8, 10   the lengths of the outputs, u16, at most 4,096 each
+//     8, 10   the lengths of the outputs, u16, the second at most 4,096
 //     12      the job's length, u32, at most 65,536
 //
 // A length above its most counts as its most, and a job that the input cuts short is made up with zeros. The
@@ -17,6 +17,7 @@ use leverbonnet::leverbonnet_reduce;
 use leverbonnet::leverbonnet_round_layout;
 use leverbonnet::leverbonnet_run_count;
 use leverbonnet::leverbonnet_run_number;
+use leverbonnet::leverbonnet_sheet_text;
 use libc::STDIN_FILENO;
 use libc::STDOUT_FILENO;
 
@@ -61,6 +62,7 @@ fn answer(header: &[u8; 16], job: &[u8], first: &mut [u8], second: &mut [u8]) ->
         3 => leverbonnet_run_number(job, a),
         4 => leverbonnet_round_layout(a, b, c, first),
         5 => leverbonnet_rect_layout(a, b, c, first),
+        6 => leverbonnet_sheet_text(job, first),
         _ => 0,
     }
 }
@@ -89,7 +91,7 @@ fn serve() -> bool {
         return false;
     }
     let mut job = io::large_buffer();
-    let mut first = io::buffer();
+    let mut first = io::large_buffer();
     let mut second = io::buffer();
     let length = within(job_length(&header), &job);
     let one = within(word(header[8], header[9]) as usize, &first);

@@ -1,5 +1,5 @@
 -- Each way through a call, and the outcome that it is.
-use Prim.Native.Nat.{ℕ, zero, suc, _*_, _^_, _≤_, _<_}
+use Prim.Native.Nat.{ℕ, zero, suc, _*_, _≤_, _<_}
 use mathlib.Core.Path.{_≡_, refl, sym, _∙_, ap, subst}
 use mathlib.Core.Bool.{Bool, true, false, cond}
 use mathlib.Core.List.{List}
@@ -12,7 +12,6 @@ use Rattle.fields.specs.Numbers.{u16At}
 use Rattle.job.specs.declared.Job.{Job}
 use Rattle.job.specs.Places.{runCountOf, runOf}
 use Rattle.job.specs.Reading.{readJob}
-use Rattle.job.proofs.Reach.{places}
 use Rattle.parts.specs.Values.{runAt}
 use Rattle.reduction.specs.declared.Reduced.{Reduced}
 use Rattle.reduction.specs.declared.Which.{Which}
@@ -24,10 +23,6 @@ use Rattle.output.specs.declared.Answer.the-variants.{Done, Refused}
 use Rattle.output.specs.Splice.{spliced}
 use Rattle.leverbonnet.specs.Bytes.{sheetBytes, findingsBytes}
 use Rattle.leverbonnet.specs.Calls.{Outcome, refused, reduced, handed, outcome, success, answerOf, linesAfter, findingsAfter, Came, countAnswer, numberAnswer}
-
--- a refusal's place fits 32 bits
-pub place-fits : (s : List ℕ) {j : Job} {n p : ℕ} → j ≡ readJob s → j .trouble ≡ At n p → p < 2 ^ 32
-place-fits s e t = omega (arith, places s (read-refused s e t))
 
 -- a refusal leaves both buffers as they were
 pub came-refused : {o : Outcome} (number place : ℕ) (lines findings : List ℕ) → o ≡ refused number place → Came o lines findings lines findings (Refused number place)

@@ -17,6 +17,7 @@ use Rattle.output.specs.declared.Answer.{Answer}
 use Rattle.output.specs.declared.Answer.the-variants.{Done, Refused}
 use Rattle.output.specs.Answers.{packed}
 use Rattle.output.specs.Splice.{spliced}
+use Rattle.text.specs.Printing.{printing, printingAnswer, printingOut}
 use Rattle.layouts.specs.Outcomes.{Outcome as LayoutOutcome, answerOf as layoutAnswer, outOf}
 use Rattle.leverbonnet.specs.Bytes.{sheetBytes, findingsBytes}
 
@@ -100,3 +101,8 @@ numberAnswer s index = numberOf (jobTrouble s) s index
 pub record LaysOut (o : LayoutOutcome) (old new : List ℕ) (r : ℕ) : Type 0 where
   pub answer : r ≡ packed (layoutAnswer o)
   pub out : new ≡ outOf o old
+
+-- leverbonnet_sheet_text: the answer, and every byte of the output
+pub record PrintsText (s old new : List ℕ) (r : ℕ) : Type 0 where
+  pub answer : r ≡ packed (printingAnswer (printing s (length old)))
+  pub out : new ≡ printingOut (printing s (length old)) old

@@ -1,5 +1,5 @@
 // The public calls. Each takes any bytes and any numbers, and its contract says what comes back and what every lent byte then is.
-// Relies on the reader, on a run's reduction, on the layouts and on the writes of `output`.
+// Relies on the reader, on a run's reduction, on the text, on the layouts and on the writes of `output`.
 
 mod calls;
 mod writing;
@@ -8,7 +8,7 @@ ghost use mathlib.Core.Path.{_≡_};
 ghost use Rattle.output.specs.Answers.{packed};
 ghost use lib.ListN.{length};
 ghost use Rattle.layouts.specs.Outcomes.{roundOutcome, rectangleOutcome};
-ghost use Rattle.leverbonnet.specs.Calls.{Reduces, countAnswer, numberAnswer, LaysOut};
+ghost use Rattle.leverbonnet.specs.Calls.{Reduces, countAnswer, numberAnswer, PrintsText, LaysOut};
 
 // Works the run of that number: 180 bytes of lines, 4 bytes a finding.
 #[no_mangle]
@@ -37,6 +37,14 @@ pub extern "C" fn leverbonnet_run_number(job: &[u8], index: u16) -> u64
     ensures { λ r. ⌜ r ≡ packed (numberAnswer (now (job .entry)) index) ⌝ }
 {
     calls::run_number(job, index).packed()
+}
+
+// The characters that the program `sheet` prints for a job that is read.
+#[no_mangle]
+pub extern "C" fn leverbonnet_sheet_text(job: &[u8], out: &mut [u8]) -> u64
+    ensures { λ r. ⌜ PrintsText (now (job .entry)) (now (out .entry)) (now (out .exit)) r ⌝ }
+{
+    text::calls::sheet_text(job, out).packed()
 }
 
 // Lays out a round stack: points on the diameter, diameter in 0.1 in, nozzle in 0.001 in; 4 bytes a distance.

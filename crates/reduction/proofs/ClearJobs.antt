@@ -1,5 +1,5 @@
 -- A job without trouble: its counts, where its runs start, its certificates, and that they are in range.
-use Prim.Native.Nat.{ℕ, _+_, _≤_, _<_}
+use Prim.Native.Nat.{ℕ, _+_, _^_, _≤_, _<_}
 use mathlib.Core.Path.{_≡_, refl, sym, _∙_, ap, subst⁻¹}
 use mathlib.Core.List.{List}
 use mathlib.Core.Logic.{_⊎_, inl, inr}
@@ -16,6 +16,7 @@ use Rattle.job.specs.declared.Job.{Job}
 use Rattle.job.specs.Places.{certificateCountOf, runCountOf, runStart, runOf}
 use Rattle.job.specs.Reading.{jobOf, readJob}
 use Rattle.job.proofs.ClearJobs.{job-clear, clear-run, clear-certificate, run-within, certificates-within}
+use Rattle.job.proofs.Reach.{places}
 use Rattle.job.proofs.WholeFile.{run-count}
 use Rattle.fields.specs.Numbers.{u16At}
 use Rattle.parts.specs.Values.{runAt, certificateOf, RunWithin}
@@ -110,3 +111,7 @@ read-refused s e t = job-trouble s e ∙ t
 
 pub read-clear : (s : List ℕ) {j : Job} → j ≡ readJob s → j .trouble ≡ Clear → ClearJob s j
 read-clear s e t = record { is = e; clear = job-trouble s e ∙ t }
+
+-- a refusal's place fits 32 bits
+pub place-fits : (s : List ℕ) {j : Job} {n p : ℕ} → j ≡ readJob s → j .trouble ≡ At n p → p < 2 ^ 32
+place-fits s e t = omega (arith, places s (read-refused s e t))

@@ -1,6 +1,3 @@
--- The laws of texts, which the writers' proofs share.
-pub mod Decimals
-pub mod Texts
-pub mod SheetTexts
-pub mod RunTexts
-pub mod JobTexts
+-- How long texts are, and what comes of the call for a job's text.
+pub mod Lengths
+pub mod Printing

@@ -1,12 +1,13 @@
 -- What is printed of a file, as characters.
-use Prim.Native.Nat.{ℕ, zero, suc}
+use Prim.Native.Nat.{ℕ}
 use mathlib.Core.List.{List, [], _∷_, _++_}
 use Rattle.fields.specs.declared.trouble.Trouble.{Trouble}
 use Rattle.fields.specs.declared.trouble.Trouble.the-variants.{Clear, At}
 use Rattle.job.specs.Places.{runCountOf}
 use Rattle.job.specs.Troubles.{jobTrouble}
 use Rattle.reduction.specs.Reducing.{reducedRun}
-use Rattle.text.specs.Numbers.{decimal}
+use Rattle.characters.specs.Numbers.{decimal}
+use Rattle.characters.specs.Writing.{joined}
 use Rattle.text.specs.Sheets.{space, newline}
 use Rattle.text.specs.Runs.{runText}
 
@@ -20,8 +21,7 @@ refusalText number place = refusedWord ++ decimal number ++ space ++ decimal pla
 
 -- the first n runs, in file order
 unfoldable pub runsText : List ℕ → ℕ → List ℕ
-runsText s zero = []
-runsText s (suc n) = runsText s n ++ runText (reducedRun s n)
+runsText s n = joined (λ k. runText (reducedRun s k)) n
 
 -- a refused job prints only its refusal
 abbrev pub textOf : Trouble → List ℕ → List ℕ

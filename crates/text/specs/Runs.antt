@@ -1,5 +1,5 @@
 -- The findings of a run and a run as a whole, as characters.
-use Prim.Native.Nat.{ℕ, zero, suc}
+use Prim.Native.Nat.{ℕ}
 use mathlib.Core.Bool.{Bool, cond}
 use mathlib.Core.List.{List, [], _∷_, _++_}
 use lib.Dec.{eqb}
@@ -7,7 +7,8 @@ use lib.ListN.{getD}
 use Rattle.findings.specs.declared.Finding.{Finding}
 use Rattle.findings.specs.Listing.{noFinding}
 use Rattle.reduction.specs.declared.Reduced.{Reduced}
-use Rattle.text.specs.Numbers.{decimal}
+use Rattle.characters.specs.Numbers.{decimal}
+use Rattle.characters.specs.Writing.{joined}
 use Rattle.text.specs.Sheets.{space, newline, sheetText}
 
 -- "FAULT " for class 1, "NOTE " for a note
@@ -20,8 +21,7 @@ findingText f = className (f .class) ++ decimal (f .rule) ++ space ++ decimal (f
 
 -- the first n findings
 unfoldable pub findingsText : List Finding → ℕ → List ℕ
-findingsText fs zero = []
-findingsText fs (suc n) = findingsText fs n ++ findingText (getD fs n noFinding)
+findingsText fs n = joined (λ i. findingText (getD fs i noFinding)) n
 
 -- " ACCEPTED" or " VOID", and the end of the line
 unfoldable pub standing : Bool → List ℕ

@@ -1,5 +1,5 @@
 -- The twenty lines of a sheet as characters: number, value and the end of the line.
-use Prim.Native.Nat.{ℕ, zero, suc, _+_}
+use Prim.Native.Nat.{ℕ, _+_}
 use mathlib.Core.List.{List, [], _∷_, _++_}
 use lib.IntN.{pos}
 use lib.ListN.{getD}
@@ -7,7 +7,8 @@ use Rattle.lines.specs.declared.Entry.{Entry}
 use Rattle.lines.specs.declared.Line.{Line}
 use Rattle.lines.specs.declared.Line.the-variants.{Present, Absent}
 use Rattle.lines.specs.declared.Sheet.{Sheet}
-use Rattle.text.specs.Numbers.{decimal, signedDecimal}
+use Rattle.characters.specs.Numbers.{decimal, signedDecimal}
+use Rattle.characters.specs.Writing.{joined}
 
 -- a space, a dash, the end of a line
 abbrev pub space : List ℕ
@@ -32,11 +33,10 @@ lineText number entry = decimal number ++ space ++ valueText (entry .line) ++ ne
 abbrev pub noEntry : Entry
 noEntry = record { line = Present (pos 0) }
 
--- the first n lines
-unfoldable pub linesText : List Entry → ℕ → List ℕ
-linesText entries zero = []
-linesText entries (suc n) = linesText entries n ++ lineText (n + 1) (getD entries n noEntry)
+-- the line of the entry at an index
+abbrev pub lineAt : List Entry → ℕ → List ℕ
+lineAt entries i = lineText (i + 1) (getD entries i noEntry)
 
 -- all twenty
 unfoldable pub sheetText : Sheet → List ℕ
-sheetText sheet = linesText (sheet .entries) 20
+sheetText sheet = joined (lineAt (sheet .entries)) 20

@@ -1,23 +1,23 @@
 // What the program prints of a file: a refusal, or its runs in file order.
 
-use crate::numbers::put_decimal;
-use crate::numbers::put_word;
 use crate::runs::put_run;
+use characters::put_decimal;
+use characters::put_word;
 use fields::trouble::Trouble;
 use job::Job;
 use reduction::reduce;
-ghost use Prim.Native.Nat.{_+_, _≤_};
+ghost use Prim.Native.Nat.{_≤_};
 ghost use lib.ListN.{length};
+ghost use Rattle.characters.specs.Writing.{Room, Wrote};
 ghost use Rattle.reduction.specs.Reducing.{ClearJob};
-ghost use Rattle.text.specs.Numbers.{Wrote};
 ghost use Rattle.text.specs.Jobs.{refusalText, runsText, jobText};
 
-// Room for the longest text: sixteen runs, each with all of its findings.
-pub const ROOM: usize = 89568;
+// Room for the text of any file: sixteen runs, each with all of its findings.
+pub const ROOM: usize = 27088;
 
 // A refusal: its number and its place.
-pub fn put_refusal(out: &mut [u8], at: usize, number: u32, place: usize) -> usize
-    requires { ⌜ at + 50 ≤ length (now out) ⌝ }
+fn put_refusal(out: &mut [u8], at: usize, number: u32, place: usize) -> usize
+    requires { ⌜ Room (now out) at (refusalText number place) ⌝ }
     ensures { λ r. ⌜ Wrote (now (out .entry)) at (refusalText number place) (now (out .exit)) r ⌝ }
 {
     let a = put_word(out, at, b"REFUSED ");
@@ -28,9 +28,9 @@ pub fn put_refusal(out: &mut [u8], at: usize, number: u32, place: usize) -> usiz
 }
 
 // The runs of a job without trouble.
-fn put_runs(s: &[u8], job: Job, out: &mut [u8]) -> usize
+pub fn put_runs(s: &[u8], job: Job, out: &mut [u8]) -> usize
     requires { ⌜ ClearJob (now s) job ⌝ }
-    requires { ⌜ 89568 ≤ length (now out) ⌝ }
+    requires { ⌜ 27088 ≤ length (now out) ⌝ }
     ensures { λ r. ⌜ Wrote (now (out .entry)) 0 (runsText (now (s .entry)) (job .runs)) (now (out .exit)) r ⌝ }
 {
     let runs = job.runs;
@@ -45,7 +45,7 @@ fn put_runs(s: &[u8], job: Job, out: &mut [u8]) -> usize
 
 // All that is printed of a file.
 pub fn put_job(s: &[u8], out: &mut [u8]) -> usize
-    requires { ⌜ 89568 ≤ length (now out) ⌝ }
+    requires { ⌜ 27088 ≤ length (now out) ⌝ }
     ensures { λ r. ⌜ Wrote (now (out .entry)) 0 (jobText (now (s .entry))) (now (out .exit)) r ⌝ }
 {
     let read = job::read(s);

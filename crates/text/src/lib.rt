@@ -1,7 +1,7 @@
-// The characters of a sheet. Each writer puts its text at a place of a buffer and answers the place after it;
-// its contract names the list of characters. Relies on the promises of `output` and on the types of the sheet.
+// The characters of a job's sheets, and the call that hands them over. Relies on the writers of `characters`, on a run's
+// reduction and on the reader.
 
+pub mod calls;
 pub mod jobs;
-pub mod numbers;
 pub mod runs;
 pub mod sheets;

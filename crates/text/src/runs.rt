@@ -1,19 +1,18 @@
 // The findings of a run, and a run as a whole.
 
-use crate::numbers::put_decimal;
-use crate::numbers::put_word;
 use crate::sheets::put_sheet;
+use characters::put_decimal;
+use characters::put_word;
 use findings::Finding;
 use findings::Findings;
 use reduction::Reduced;
-ghost use Prim.Native.Nat.{_+_, _≤_};
-ghost use lib.ListN.{length};
-ghost use Rattle.text.specs.Numbers.{Wrote};
+ghost use Prim.Native.Nat.{_≤_};
+ghost use Rattle.characters.specs.Writing.{Room, Wrote};
 ghost use Rattle.text.specs.Runs.{className, findingText, findingsText, standing, runText};
 
 // What a finding is: a fault or a note.
 fn put_class(out: &mut [u8], at: usize, class: u8) -> usize
-    requires { ⌜ at + 6 ≤ length (now out) ⌝ }
+    requires { ⌜ Room (now out) at (className class) ⌝ }
     ensures { λ r. ⌜ Wrote (now (out .entry)) at (className class) (now (out .exit)) r ⌝ }
 {
     if class == Finding::FAULT {
@@ -24,7 +23,7 @@ fn put_class(out: &mut [u8], at: usize, class: u8) -> usize
 
 // A finding: what it is, its rule and its place.
 fn put_finding(out: &mut [u8], at: usize, f: Finding) -> usize
-    requires { ⌜ at + 48 ≤ length (now out) ⌝ }
+    requires { ⌜ Room (now out) at (findingText f) ⌝ }
     ensures { λ r. ⌜ Wrote (now (out .entry)) at (findingText f) (now (out .exit)) r ⌝ }
 {
     let a = put_class(out, at, f.class);
@@ -36,7 +35,7 @@ fn put_finding(out: &mut [u8], at: usize, f: Finding) -> usize
 
 // All findings, in order.
 fn put_findings(out: &mut [u8], at: usize, found: Findings) -> usize
-    requires { ⌜ (found .count ≤ 98) × (at + 4704 ≤ length (now out)) ⌝ }
+    requires { ⌜ (found .count ≤ 98) × Room (now out) at (findingsText (found .list) (found .count)) ⌝ }
     ensures { λ r. ⌜ Wrote (now (out .entry)) at (findingsText (found .list) (found .count)) (now (out .exit)) r ⌝ }
 {
     let list = found.list;
@@ -52,7 +51,7 @@ fn put_findings(out: &mut [u8], at: usize, found: Findings) -> usize
 
 // Whether the run stands.
 fn put_standing(out: &mut [u8], at: usize, accepted: bool) -> usize
-    requires { ⌜ at + 10 ≤ length (now out) ⌝ }
+    requires { ⌜ Room (now out) at (standing accepted) ⌝ }
     ensures { λ r. ⌜ Wrote (now (out .entry)) at (standing accepted) (now (out .exit)) r ⌝ }
 {
     if accepted {
@@ -63,7 +62,7 @@ fn put_standing(out: &mut [u8], at: usize, accepted: bool) -> usize
 
 // A run: its number and whether it stands, its twenty lines, its findings.
 pub fn put_run(out: &mut [u8], at: usize, r: Reduced) -> usize
-    requires { ⌜ (r .findings .count ≤ 98) × (at + 5598 ≤ length (now out)) ⌝ }
+    requires { ⌜ (r .findings .count ≤ 98) × Room (now out) at (runText r) ⌝ }
     ensures { λ e. ⌜ Wrote (now (out .entry)) at (runText r) (now (out .exit)) e ⌝ }
 {
     let sheet = r.sheet;

@@ -1,19 +1,17 @@
 // The twenty lines of a sheet, a line of text each.
 
-use crate::numbers::put_decimal;
-use crate::numbers::put_signed;
-use crate::numbers::put_word;
+use characters::put_decimal;
+use characters::put_signed;
+use characters::put_word;
 use lines::Entry;
 use lines::Line;
 use lines::Sheet;
-ghost use Prim.Native.Nat.{_+_, _≤_};
-ghost use lib.ListN.{length};
-ghost use Rattle.text.specs.Numbers.{Wrote};
+ghost use Rattle.characters.specs.Writing.{Room, Wrote};
 ghost use Rattle.text.specs.Sheets.{valueText, lineText, sheetText};
 
 // A line's value, or a dash where it is absent.
 fn put_value(out: &mut [u8], at: usize, line: Line) -> usize
-    requires { ⌜ at + 21 ≤ length (now out) ⌝ }
+    requires { ⌜ Room (now out) at (valueText line) ⌝ }
     ensures { λ r. ⌜ Wrote (now (out .entry)) at (valueText line) (now (out .exit)) r ⌝ }
 {
     let Line::Present(value) = line else {
@@ -24,7 +22,7 @@ fn put_value(out: &mut [u8], at: usize, line: Line) -> usize
 
 // A line's number, its value and the end of the line.
 fn put_line(out: &mut [u8], at: usize, number: u64, entry: Entry) -> usize
-    requires { ⌜ at + 43 ≤ length (now out) ⌝ }
+    requires { ⌜ Room (now out) at (lineText number entry) ⌝ }
     ensures { λ r. ⌜ Wrote (now (out .entry)) at (lineText number entry) (now (out .exit)) r ⌝ }
 {
     let line = entry.line;
@@ -36,7 +34,7 @@ fn put_line(out: &mut [u8], at: usize, number: u64, entry: Entry) -> usize
 
 // All twenty.
 pub fn put_sheet(out: &mut [u8], at: usize, sheet: Sheet) -> usize
-    requires { ⌜ at + 860 ≤ length (now out) ⌝ }
+    requires { ⌜ Room (now out) at (sheetText sheet) ⌝ }
     ensures { λ r. ⌜ Wrote (now (out .entry)) at (sheetText sheet) (now (out .exit)) r ⌝ }
 {
     let entries = sheet.entries;

@@ -35,7 +35,7 @@ array-share-prefix-out c = search needs
 slice-aggregate-write-all : tie.Need-slice-aggregate-write-all
 slice-aggregate-write-all c =
     let printed = c .before .before .before .put-job in
-    let room = printed .ensures .kept ∙ length-replicate {A = ℕ} 89568 0 in
+    let room = printed .ensures .kept ∙ length-replicate {A = ℕ} 27088 0 in
     sym (length-take-le (printed .result) (printed .last .1 .0) (omega (arith, room, c .before .if1 .taken)))
 
 write-all-requires : tie.Need-write-all-requires

@@ -1,8 +1,8 @@
 -- The reader's refusal, or its count.
 use borrow.Author.Needs.{needs}
 use native.Mathlib.Omega.{arith}
-use Rattle.reduction.proofs.ClearJobs.{read-clear, few-runs}
-use Rattle.leverbonnet.proofs.Outcomes.{place-fits, count-refused, count-done}
+use Rattle.reduction.proofs.ClearJobs.{read-clear, few-runs, place-fits}
+use Rattle.leverbonnet.proofs.Outcomes.{count-refused, count-done}
 use Rattle.leverbonnet.proofs.calls.run_count.Statement.{statement}
 use Rattle.leverbonnet.proofs.calls.run_count.Tie as tie
 

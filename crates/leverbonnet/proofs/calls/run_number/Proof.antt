@@ -1,8 +1,8 @@
 -- The reader's refusal, none past the last run, or the number at the run's start.
 use borrow.Author.Needs.{needs}
 use native.Mathlib.Omega.{arith}
-use Rattle.reduction.proofs.ClearJobs.{read-clear, few-runs, number-left}
-use Rattle.leverbonnet.proofs.Outcomes.{place-fits, number-refused, number-past, number-done}
+use Rattle.reduction.proofs.ClearJobs.{read-clear, few-runs, number-left, place-fits}
+use Rattle.leverbonnet.proofs.Outcomes.{number-refused, number-past, number-done}
 use Rattle.leverbonnet.proofs.calls.run_number.Statement.{statement}
 use Rattle.leverbonnet.proofs.calls.run_number.Tie as tie
 

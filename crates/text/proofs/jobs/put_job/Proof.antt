@@ -2,24 +2,22 @@
 use borrow.Author.Needs.{needs}
 use mathlib.Core.Path.{_≡_}
 use Prim.Native.Nat.{ℕ}
+use native.Mathlib.Omega.{arith}
 use mathlib.Core.List.{List}
 use Rattle.fields.specs.declared.trouble.Trouble.the-variants.{At}
 use Rattle.job.specs.declared.Job.{Job}
 use Rattle.job.specs.Reading.{readJob}
-use Rattle.reduction.specs.Reducing.{ClearJob}
-use Rattle.reduction.proofs.ClearJobs.{count-of-runs, read-refused, read-clear}
-use Rattle.text.specs.Numbers.{Wrote}
-use Rattle.text.specs.Jobs.{refusalText, runsText, jobText}
+use Rattle.reduction.proofs.ClearJobs.{read-refused, read-clear}
+use Rattle.characters.specs.Writing.{Wrote}
+use Rattle.text.specs.Jobs.{refusalText, jobText}
+use Rattle.text.proofs.Lengths.{refusal-short}
+use Rattle.text.proofs.Printing.{text-of-runs}
 use Rattle.text.proofs.jobs.put_job.Statement.{statement}
 use Rattle.text.proofs.jobs.put_job.Tie as tie
 
 refused : (s : List ℕ) {old out : List ℕ} {j : Job} {n p next : ℕ} → j ≡ readJob s → j .trouble ≡ At n p → Wrote old 0 (refusalText n p) out next → Wrote old 0 (jobText s) out next
 unfolding jobText
 refused s e t w = rw (read-refused s e t) w
-
-printed : (s : List ℕ) {old out : List ℕ} {j : Job} {next : ℕ} → ClearJob s j → Wrote old 0 (runsText s (j .runs)) out next → Wrote old 0 (jobText s) out next
-unfolding jobText
-printed s {j = j} ok w = rw (ok .clear) (rw (count-of-runs s j ok) at w)
 
 read-requires : tie.Need-read-requires
 read-requires c κs = search needs
@@ -28,7 +26,7 @@ enum-known-trouble : tie.Need-enum-known-trouble
 enum-known-trouble c = search needs
 
 put-refusal-requires : tie.Need-put-refusal-requires
-put-refusal-requires c κs = search needs
+put-refusal-requires c κs = record { fits = omega (arith, refusal-short (c .before .before .trouble .given .0 .0) (c .before .before .trouble .given .0 .1 .0)) }
 
 same-length : tie.Need-same-length
 same-length c = search needs
@@ -46,7 +44,7 @@ same-length-2 : tie.Need-same-length-2
 same-length-2 c = search needs
 
 returns-2 : tie.Need-returns-2
-returns-2 c = printed _ (read-clear _ (c .before .before .before .before .before .before .read .ensures) (c .before .before .before .before .enum-told .given .1)) (c .before .before .put-runs .ensures)
+returns-2 c = rw (text-of-runs _ _ (read-clear _ (c .before .before .before .before .before .before .read .ensures) (c .before .before .before .before .enum-told .given .1))) at (c .before .before .put-runs .ensures)
 
 pub put-job-spec : {M : Type 1} → statement M
 put-job-spec =

@@ -1,44 +1,54 @@
 -- The loop writes one finding a turn.
-use Prim.Native.Nat.{_-_}
+use Prim.Native.Nat.{_-_, _≤_}
 use native.Mathlib.Omega.{arith}
-use Rattle.text.proofs.RunTexts.{Found, found-none, found-more, found-all}
+use lib.ListN.{getD}
+use Rattle.findings.specs.Listing.{noFinding}
+use Rattle.characters.specs.Writing.{joined, Room, Wrote}
+use Rattle.characters.proofs.Texts.{joined-none, joined-room, joined-more, joined-all}
+use Rattle.text.specs.Runs.{findingText, findingsText}
 use Rattle.text.proofs.runs.put_findings.Statement.{statement}
 use Rattle.text.proofs.runs.put_findings.Tie as tie
 
 abbrev Inv-loop : tie.InvT-loop
-Inv-loop out₀ at list count next₀ i₀ out next i = Found out₀ at list count out next i
+Inv-loop out₀ at list count next₀ i₀ out next i = (i ≤ count) × Wrote out₀ at (joined (λ k. findingText (getD list k noFinding)) i) out next
 
 abbrev μ-loop : tie.MeasureT-loop
 μ-loop out₀ at list count next₀ i₀ out next i = count - i
 
+-- room for all findings
+room : (c : tie.Start Inv-loop μ-loop) → Room (c .args .out .now) (c .args .at) (joined (λ k. findingText (getD (c .args .found .list) k noFinding)) (c .args .found .count))
+unfolding findingsText
+room c = c .pre .1
+
 loop-holds : tie.Need-loop-holds Inv-loop μ-loop
-loop-holds c = found-none _ _ _ _ (c .before .before .pre .0) (c .before .before .pre .1)
+loop-holds c = (omega arith, joined-none _ _ _)
 
 mul-put-finding : tie.Need-mul-put-finding Inv-loop μ-loop
-mul-put-finding c = omega (arith, c .before .loop-test .taken, c .before .before .loop .inv .few)
+mul-put-finding c = omega (arith, c .before .loop-test .taken, c .before .before .before .before .before .pre .0)
 
 array-copy-out-put-finding : tie.Need-array-copy-out-put-finding Inv-loop μ-loop
-array-copy-out-put-finding c = omega (arith, c .before .loop-test .taken, c .before .before .loop .inv .few)
+array-copy-out-put-finding c = omega (arith, c .before .loop-test .taken, c .before .before .before .before .before .pre .0)
 
 put-finding-requires : tie.Need-put-finding-requires Inv-loop μ-loop
-put-finding-requires c κs =
-    let l = c .before .before .before .loop .inv in
-    omega (arith, l .room, l .short, l .few, l .is .after, l .is .kept, c .before .before .loop-test .taken)
+put-finding-requires c κs = joined-room _ (c .before .before .before .loop .inv .1) (room (c .before .before .before .before .before .before)) (c .before .before .loop-test .taken)
 
 add-i : tie.Need-add-i Inv-loop μ-loop
-add-i c = omega (arith, c .before .before .before .before .before .loop-test .taken, c .before .before .before .before .before .before .loop .inv .few)
+add-i c = omega (arith, c .before .before .before .before .before .loop-test .taken, c .before .before .before .before .before .before .before .before .before .pre .0)
 
 loop-less : tie.Need-loop-less Inv-loop μ-loop
 loop-less c = omega (arith, c .before .before .before .before .before .loop-test .taken)
 
 loop-again : tie.Need-loop-again Inv-loop μ-loop
-loop-again c = found-more (c .before .before .before .before .before .before .loop .inv) (c .before .before .before .before .before .loop-test .taken) (c .before .before .put-finding .ensures)
+loop-again c =
+    let inside = c .before .before .before .before .before .loop-test .taken in
+    (omega (arith, inside), joined-more _ (c .before .before .before .before .before .before .loop .inv .1) (room (c .before .before .before .before .before .before .before .before .before)) inside (c .before .before .put-finding .ensures))
 
 same-length : tie.Need-same-length Inv-loop μ-loop
-same-length c = c .before .loop .inv .is .kept
+same-length c = c .before .loop .inv .1 .kept
 
 returns : tie.Need-returns Inv-loop μ-loop
-returns c = found-all (c .before .loop .inv) (c .loop-test .left)
+unfolding findingsText
+returns c = joined-all _ (c .before .loop .inv .1) (c .before .loop .inv .0) (c .loop-test .left)
 
 pub put-findings-spec : {M : Type 1} → statement M
 put-findings-spec =

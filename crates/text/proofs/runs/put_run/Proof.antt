@@ -1,52 +1,51 @@
 -- Five parts, one after another.
 use borrow.Author.Needs.{needs}
-use native.Mathlib.Omega.{arith}
-use Rattle.text.proofs.Decimals.{decimal-short}
-use Rattle.text.proofs.SheetTexts.{sheet-short}
-use Rattle.text.proofs.RunTexts.{standing-short, wrote-run}
+use mathlib.Core.List.{_++_}
+use Rattle.characters.specs.Numbers.{decimal}
+use Rattle.characters.specs.Writing.{Room}
+use Rattle.characters.proofs.Texts.{room-front, room-first, room-second, room-third, room-fourth, room-fifth, wrote-five}
+use Rattle.text.specs.Sheets.{sheetText}
+use Rattle.text.specs.Runs.{findingsText, standing, runWord, runText}
 use Rattle.text.proofs.runs.put_run.Statement.{statement}
 use Rattle.text.proofs.runs.put_run.Tie as tie
+
+-- room for the five parts, and for the first four of them
+room : (c : tie.Start) → Room (c .args .out .now) (c .args .at) (runWord ++ decimal (c .args .r .number) ++ standing (c .args .r .accepted) ++ sheetText (c .args .r .sheet) ++ findingsText (c .args .r .findings .list) (c .args .r .findings .count))
+unfolding runText
+room c = c .pre .1
+
+front : (c : tie.Start) → Room (c .args .out .now) (c .args .at) (runWord ++ decimal (c .args .r .number) ++ standing (c .args .r .accepted) ++ sheetText (c .args .r .sheet))
+front c = room-front _ _ (room c)
 
 slice-aggregate-put-word : tie.Need-slice-aggregate-put-word
 slice-aggregate-put-word c = search needs
 
 put-word-requires : tie.Need-put-word-requires
-put-word-requires c κs = search needs
+put-word-requires c κs =
+    let start = c .before .before .before .before .before in
+    room-first runWord (decimal (start .args .r .number)) (standing (start .args .r .accepted)) (sheetText (start .args .r .sheet)) (front start)
 
 cast-put-decimal : tie.Need-cast-put-decimal
 cast-put-decimal c = search needs
 
 put-decimal-requires : tie.Need-put-decimal-requires
-put-decimal-requires c κs =
-    let start = c .before .before .before .before .before .before .before .before .before .before in
-    omega (arith, start .pre, decimal-short (start .args .r .number), c .before .before .before .before .put-word .ensures)
+put-decimal-requires c κs = room-second _ _ _ _ (front (c .before .before .before .before .before .before .before .before .before .before)) (c .before .before .before .before .put-word .ensures)
 
 put-standing-requires : tie.Need-put-standing-requires
-put-standing-requires c κs =
-    let start = c .before .before .before .before .before .before .before .before .before .before .before .before .before .before in
-    omega (arith, start .pre, decimal-short (start .args .r .number), c .before .before .before .before .before .before .before .before .put-word .ensures, c .before .before .before .put-decimal .ensures)
+put-standing-requires c κs = room-third _ _ _ _ (front (c .before .before .before .before .before .before .before .before .before .before .before .before .before .before)) (c .before .before .before .before .before .before .before .before .put-word .ensures) (c .before .before .before .put-decimal .ensures)
 
 put-sheet-requires : tie.Need-put-sheet-requires
-put-sheet-requires c κs =
-    let start = c .before .before .before .before .before .before .before .before .before .before .before .before .before .before .before .before .before .before in
-    omega
-    (arith, start .pre, decimal-short (start .args .r .number), standing-short (start .args .r .accepted), c .before .before .before .before .before .before .before .before .before .before .before .before .put-word .ensures, c .before .before .before .before .before .before .before .put-decimal .ensures, c .before .before .before .put-standing .ensures)
+put-sheet-requires c κs = room-fourth _ _ _ _ (front (c .before .before .before .before .before .before .before .before .before .before .before .before .before .before .before .before .before .before)) (c .before .before .before .before .before .before .before .before .before .before .before .before .put-word .ensures) (c .before .before .before .before .before .before .before .put-decimal .ensures) (c .before .before .before .put-standing .ensures)
 
 put-findings-requires : tie.Need-put-findings-requires
-put-findings-requires c κs =
-    let start = c .before .before .before .before .before .before .before .before .before .before .before .before .before .before .before .before .before .before .before .before .before .before in (
-      start .pre .0,
-      omega
-          (arith, start .pre, decimal-short (start .args .r .number), standing-short (start .args .r .accepted), sheet-short (start .args .r .sheet), c .before .before .before .before .before .before .before .before .before .before .before .before .before .before .before .before .put-word .ensures, c .before .before .before .before .before .before .before .before .before .before .before .put-decimal .ensures, c .before .before .before .before .before .before .before .put-standing .ensures, c .before .before .before .put-sheet .ensures),
-    )
+put-findings-requires c κs = (c .before .before .before .before .before .before .before .before .before .before .before .before .before .before .before .before .before .before .before .before .before .before .pre .0, room-fifth _ _ _ _ _ (room (c .before .before .before .before .before .before .before .before .before .before .before .before .before .before .before .before .before .before .before .before .before .before)) (c .before .before .before .before .before .before .before .before .before .before .before .before .before .before .before .before .put-word .ensures) (c .before .before .before .before .before .before .before .before .before .before .before .put-decimal .ensures) (c .before .before .before .before .before .before .before .put-standing .ensures) (c .before .before .before .put-sheet .ensures))
 
 same-length : tie.Need-same-length
 same-length c = search needs
 
 returns : tie.Need-returns
-returns c =
-    let start = c .before .before .before .before .before .before .before .before .before .before .before .before .before .before .before .before .before .before .before .before .before .before .before .before .before in
-    wrote-run _ (start .pre .1) (start .pre .0) (c .before .before .before .before .before .before .before .before .before .before .before .before .before .before .before .before .before .before .before .put-word .ensures) (c .before .before .before .before .before .before .before .before .before .before .before .before .before .before .put-decimal .ensures) (c .before .before .before .before .before .before .before .before .before .before .put-standing .ensures) (c .before .before .before .before .before .before .put-sheet .ensures) (c .before .before .put-findings .ensures)
+unfolding runText
+returns c = wrote-five _ _ _ _ _ (room (c .before .before .before .before .before .before .before .before .before .before .before .before .before .before .before .before .before .before .before .before .before .before .before .before .before)) (c .before .before .before .before .before .before .before .before .before .before .before .before .before .before .before .before .before .before .before .put-word .ensures) (c .before .before .before .before .before .before .before .before .before .before .before .before .before .before .put-decimal .ensures) (c .before .before .before .before .before .before .before .before .before .before .put-standing .ensures) (c .before .before .before .before .before .before .put-sheet .ensures) (c .before .before .put-findings .ensures)
 
 pub put-run-spec : {M : Type 1} → statement M
 put-run-spec =

@@ -1,8 +1,7 @@
 -- By the two cases of a line.
 use borrow.Author.Needs.{needs}
-use Prim.Native.Nat.{ℕ, _^_, _<_}
+use Prim.Native.Nat.{_^_, _<_}
 use mathlib.Core.Path.{_≡_}
-use mathlib.Core.List.{List}
 use native.Mathlib.Omega.{arith}
 use lib.IntN.{ℤ}
 use lib.Signed.{mag}
@@ -11,14 +10,15 @@ use mir.Syntax.{w64}
 use mir.Val.{toZ, ofZ}
 use Rattle.lines.specs.declared.Line.{Line}
 use Rattle.lines.specs.declared.Line.the-variants.{Present}
-use Rattle.text.specs.Numbers.{signedDecimal, Wrote}
+use Rattle.characters.specs.Numbers.{signedDecimal}
 use Rattle.text.specs.Sheets.{valueText}
 use Rattle.text.proofs.sheets.put_value.Statement.{statement}
 use Rattle.text.proofs.sheets.put_value.Tie as tie
 
-wrote-present : {old : List ℕ} {at : ℕ} {line : Line} {z : ℤ} {out : List ℕ} {next : ℕ} → line ≡ Present z → mag z < 2 ^ 63 → Wrote old at (signedDecimal (toZ w64 (ofZ w64 z))) out next → Wrote old at (valueText line) out next
+-- the text of a line that is there
+present-text : {line : Line} {z : ℤ} → line ≡ Present z → mag z < 2 ^ 63 → valueText line ≡ signedDecimal (toZ w64 (ofZ w64 z))
 unfolding valueText
-wrote-present e small w = rw e (rw (toZ-ofZ {w = w64} (record { sfits = small })) at w)
+present-text e small = rw (e, toZ-ofZ {w = w64} (record { sfits = small }))
 
 enum-known-line : tie.Need-enum-known-line
 enum-known-line c = search needs
@@ -30,7 +30,8 @@ slice-aggregate-put-word : tie.Need-slice-aggregate-put-word
 slice-aggregate-put-word c = search needs
 
 put-word-requires : tie.Need-put-word-requires
-put-word-requires c κs = search needs
+unfolding valueText
+put-word-requires c κs = rw (c .before .before .enum-told .given .1) at (c .before .before .before .before .before .pre)
 
 same-length : tie.Need-same-length
 same-length c = search needs
@@ -40,7 +41,8 @@ unfolding valueText
 returns c = rw (c .before .before .before .before .before .enum-told .given .1) (c .before .before .put-word .ensures)
 
 put-signed-requires : tie.Need-put-signed-requires
-put-signed-requires c κs = search needs
+put-signed-requires c κs =
+    rw (present-text (c .before .before .line .given .1) (omega (arith, c .before .known-told .given))) at (c .before .before .before .before .before .pre)
 
 same-length-2 : tie.Need-same-length-2
 same-length-2 c = search needs
@@ -48,7 +50,7 @@ same-length-2 c = search needs
 returns-2 : tie.Need-returns-2
 returns-2 c =
     let at = c .before .before .before .before in
-    wrote-present (at .before .line .given .1) (omega (arith, at .known-told .given)) (c .before .before .put-signed .ensures)
+    rw (present-text (at .before .line .given .1) (omega (arith, at .known-told .given))) (c .before .before .put-signed .ensures)
 
 pub put-value-spec : {M : Type 1} → statement M
 put-value-spec =

@@ -1,0 +1,21 @@
+-- Texts one after another, room for a text, and a buffer into which a text was written.
+use Prim.Native.Nat.{ℕ, zero, suc, _+_, _≤_}
+use mathlib.Core.Path.{_≡_}
+use mathlib.Core.List.{List, [], _++_}
+use lib.ListN.{length}
+use Rattle.output.specs.Splice.{spliced}
+
+-- the first n of some texts, one after another
+unfoldable pub joined : (ℕ → List ℕ) → ℕ → List ℕ
+joined text zero = []
+joined text (suc n) = joined text n ++ text n
+
+-- a buffer has room for a text at a place
+pub record Room (out : List ℕ) (at : ℕ) (text : List ℕ) : Type 0 where
+  pub fits : at + length text ≤ length out
+
+-- a text was written at a place: the buffer afterwards, the place after the text, and the buffer's length as it was
+pub record Wrote (old : List ℕ) (at : ℕ) (text out : List ℕ) (next : ℕ) : Type 0 where
+  pub is : out ≡ spliced old at text
+  pub after : next ≡ at + length text
+  pub kept : length out ≡ length old

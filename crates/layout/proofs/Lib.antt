@@ -1,3 +1,0 @@
--- The laws of the program's words and points.
-pub mod Numerals
-pub mod PointTexts

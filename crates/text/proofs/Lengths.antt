@@ -1,0 +1,160 @@
+-- How long a text can be: a line, a finding, a run, and all that is printed of a file.
+use Prim.Native.Nat.{ℕ, _+_, _-_, _≤_, _<_}
+use mathlib.Core.Path.{_≡_, refl, ap}
+use mathlib.Core.Bool.{Bool, true, false, cond}
+use mathlib.Core.List.{List, [], _∷_, _++_}
+use native.Mathlib.Omega.{arith}
+use lib.Dec.{eqb}
+use lib.ListN.{length, getD, replicate, length-append, List·getD-append}
+use Rattle.readings.proofs.Ranges.{within-greatest}
+use Rattle.fields.specs.declared.trouble.Trouble.{Trouble}
+use Rattle.fields.specs.declared.trouble.Trouble.the-variants.{Clear, At}
+use Rattle.records.specs.declared.Run.{Run}
+use Rattle.records.specs.InRange.{RunOk}
+use Rattle.lines.specs.declared.Entry.{Entry}
+use Rattle.lines.specs.declared.Line.{Line}
+use Rattle.lines.specs.declared.Line.the-variants.{Present, Absent}
+use Rattle.lines.specs.declared.Sheet.{Sheet}
+use Rattle.certs.specs.declared.Chosen.{Chosen}
+use Rattle.findings.specs.declared.Finding.{Finding}
+use Rattle.readings.specs.Ranges.{oneOf}
+use Rattle.findings.specs.Rules.{placesOf, placeOf}
+use Rattle.findings.specs.Listing.{noFinding, most, listed, findings, findingsFor, linesFor, Breaks}
+use Rattle.findings.proofs.Members.{listed-exactly}
+use Rattle.findings.proofs.Most.{at-most-for}
+use Rattle.job.specs.Places.{runCountOf, runOf}
+use Rattle.job.specs.Troubles.{jobTrouble}
+use Rattle.job.proofs.ClearJobs.{job-clear, clear-run}
+use Rattle.job.proofs.WholeFile.{run-count}
+use Rattle.reduction.specs.Reducing.{worked, chosenIn, reducedRun}
+use Rattle.characters.specs.Numbers.{decimal}
+use Rattle.characters.specs.Writing.{joined}
+use Rattle.characters.proofs.Decimals.{decimal-short, decimal-digits, signed-short}
+use Rattle.characters.proofs.Texts.{joined-short}
+use Rattle.text.specs.Sheets.{space, newline, valueText, lineText, lineAt, sheetText}
+use Rattle.text.specs.Runs.{className, findingText, findingsText, standing, runWord, runText}
+use Rattle.text.specs.Jobs.{refusedWord, refusalText, runsText, textOf, jobText}
+
+-- of two texts, whichever it is
+either-short : (test : Bool) (a b : List ℕ) (n : ℕ) → length a ≤ n → length b ≤ n → length (cond test a b) ≤ n
+either-short true a b n h k = h
+either-short false a b n h k = k
+
+-- A sheet
+
+value-short : (line : Line) → length (valueText line) ≤ 21
+unfolding valueText
+value-short (Present z) = signed-short z
+value-short Absent = omega arith
+
+line-short : (number : ℕ) (entry : Entry) → number < 100 → length (lineText number entry) ≤ 25
+unfolding lineText
+line-short number entry few =
+    let value = valueText (entry .line) in
+    let one = length-append (decimal number) space in
+    let two = length-append (decimal number ++ space) value in
+    let three = length-append (decimal number ++ space ++ value) newline in
+    omega (arith, one, two, three, decimal-digits 1 number few, value-short (entry .line))
+
+sheet-short : (sheet : Sheet) → length (sheetText sheet) ≤ 500
+unfolding sheetText
+sheet-short sheet = joined-short (lineAt (sheet .entries)) 20 25 (λ i inside. line-short (i + 1) _ (omega arith))
+
+-- Findings
+
+class-short : (class : ℕ) → length (className class) ≤ 6
+unfolding className
+class-short class = either-short (eqb class 1) _ _ 6 (omega arith) (omega arith)
+
+finding-short : (f : Finding) → f .rule < 100 → f .place < 100 → length (findingText f) ≤ 12
+unfolding findingText
+finding-short f rule place =
+    let class = className (f .class) in
+    let one = length-append class (decimal (f .rule)) in
+    let two = length-append (class ++ decimal (f .rule)) space in
+    let three = length-append (class ++ decimal (f .rule) ++ space) (decimal (f .place)) in
+    let four = length-append (class ++ decimal (f .rule) ++ space ++ decimal (f .place)) newline in
+    omega (arith, one, two, three, four, class-short (f .class), decimal-digits 1 (f .rule) rule, decimal-digits 1 (f .place) place)
+
+-- a number that is one of two is at most what both are
+either-most : (test : Bool) (a b n : ℕ) → a ≤ n → b ≤ n → cond test a b ≤ n
+either-most true a b n h k = h
+either-most false a b n h k = k
+
+-- no rule has more places than there can be points, and no finding stands behind the last of them
+places-few : (r : Run) → RunOk r → (rule : ℕ) → placesOf (r .counts) rule ≤ 64
+unfolding placesOf
+places-few r ok rule =
+    let points = within-greatest 1 64 _ (ok .countOfPoints) in
+    let segments = within-greatest 1 16 _ (ok .countOfSegments) in
+    let weighings = within-greatest 0 8 _ (ok .countOfWeighings) in
+    either-most (eqb rule 10) _ _ 64 points (either-most (eqb rule 11) _ _ 64 (omega arith) (either-most (eqb rule 17) _ _ 64 (omega arith) (omega arith)))
+
+place-few : (rule i : ℕ) → i < 64 → placeOf rule i ≤ 64
+unfolding placeOf
+place-few rule i h = either-most (oneOf (10 ∷ 11 ∷ 17 ∷ []) rule) _ _ 64 (omega arith) (omega arith)
+
+-- what a run breaks, and where, are numbers of two digits
+module _ (r : Run) (ch : Chosen) (ok : RunOk r) where
+  breaks-at : (i : ℕ) → i < length (findingsFor r ch) → Breaks r ch (linesFor r ch) (getD (findingsFor r ch) i noFinding .rule) (getD (findingsFor r ch) i noFinding .place)
+  unfolding findingsFor
+  breaks-at i inside = listed-exactly r ch (linesFor r ch) _ _ .0 (record { index = i; inside = inside; same = (refl, refl) })
+
+  finding-at-short : (i : ℕ) → i < length (findingsFor r ch) → length (findingText (getD (findingsFor r ch) i noFinding)) ≤ 12
+  finding-at-short i inside =
+      let b = breaks-at i inside in
+      let few = places-few r ok (getD (findingsFor r ch) i noFinding .rule) in
+      let place = place-few (getD (findingsFor r ch) i noFinding .rule) (b .index) (omega (arith, few, b .inside)) in
+      finding-short _ (omega (arith, b .last)) (omega (arith, place, b .there))
+
+  found-short : length (findingsText (listed (findingsFor r ch) .list) (listed (findingsFor r ch) .count)) ≤ 1176
+  unfolding findingsText listed
+  found-short =
+      let fs = findingsFor r ch in
+      let behind = replicate (most - length fs) noFinding in
+      let all = joined-short (λ i. findingText (getD (fs ++ behind) i noFinding)) (length fs) 12 (λ i inside. rw (List·getD-append fs behind noFinding i inside) (finding-at-short i inside)) in
+      omega (arith, all, at-most-for r ch ok)
+
+-- A run, and all that is printed of a file
+
+standing-short : (accepted : Bool) → length (standing accepted) ≤ 10
+unfolding standing
+standing-short accepted = either-short accepted _ _ 10 (omega arith) (omega arith)
+
+run-short : (r : Run) (ch : Chosen) → RunOk r → length (runText (worked r ch)) ≤ 1693
+unfolding runText worked
+run-short r ch ok =
+    let number = decimal (r .number) in
+    let stands = standing (worked r ch .accepted) in
+    let sheet = sheetText (worked r ch .sheet) in
+    let found = findingsText (listed (findingsFor r ch) .list) (listed (findingsFor r ch) .count) in
+    let one = length-append runWord number in
+    let two = length-append (runWord ++ number) stands in
+    let three = length-append (runWord ++ number ++ stands) sheet in
+    let four = length-append (runWord ++ number ++ stands ++ sheet) found in
+    let small = within-greatest 1 999 _ (ok .number) in
+    omega (arith, one, two, three, four, decimal-digits 2 (r .number) (omega (arith, small)), standing-short (worked r ch .accepted), sheet-short (worked r ch .sheet), found-short r ch ok)
+
+pub runs-short : (s : List ℕ) → jobTrouble s ≡ Clear → length (runsText s (runCountOf s)) ≤ 27088
+unfolding runsText reducedRun
+runs-short s clear =
+    let all = joined-short (λ k. runText (reducedRun s k)) (runCountOf s) 1693 (λ k inside. run-short (runOf s k) (chosenIn s k) (clear-run s clear k inside)) in
+    omega (arith, all, run-count s (job-clear s clear .file))
+
+pub refusal-short : (number place : ℕ) → length (refusalText number place) ≤ 50
+unfolding refusalText
+refusal-short number place =
+    let one = length-append refusedWord (decimal number) in
+    let two = length-append (refusedWord ++ decimal number) space in
+    let three = length-append (refusedWord ++ decimal number ++ space) (decimal place) in
+    let four = length-append (refusedWord ++ decimal number ++ space ++ decimal place) newline in
+    omega (arith, one, two, three, four, decimal-short number, decimal-short place)
+
+-- A length that suffices for the text of any file
+pub text-most : (s : List ℕ) → length (jobText s) ≤ 27088
+unfolding jobText
+text-most s = most-of (jobTrouble s) refl
+  where
+    most-of : (t : Trouble) → jobTrouble s ≡ t → length (textOf t s) ≤ 27088
+    most-of Clear e = runs-short s e
+    most-of (At number place) e = omega (arith, refusal-short number place)

@@ -1,0 +1,43 @@
+// The call for the text of a job, with its answer as an enum.
+
+use crate::jobs::ROOM;
+use crate::jobs::put_runs;
+use characters::put_word;
+use fields::trouble::Trouble;
+use job::Job;
+use output::Answer;
+ghost use Rattle.reduction.specs.Reducing.{ClearJob};
+ghost use Rattle.text.specs.Printing.{PrintsClear, Prints};
+
+// A lent output that is shorter than the text.
+const TOO_SHORT: u32 = 9;
+
+// The text of a job without trouble, by way of a buffer with room for any: how long it is shows only once it is
+// written, and an output that turns out too short stays as it was.
+fn put_by_way(s: &[u8], job: Job, out: &mut [u8]) -> Answer
+    requires { ⌜ ClearJob (now s) job ⌝ }
+    ensures { λ r. ⌜ PrintsClear (now (s .entry)) (now (out .entry)) (now (out .exit)) r ⌝ }
+{
+    let mut way = [0u8; ROOM];
+    let end = put_runs(s, job, &mut way);
+    if out.len() < end {
+        return Answer::Refused(TOO_SHORT, 0);
+    }
+    put_word(out, 0, &way[..end]);
+    Answer::Done(end as u32)
+}
+
+// Writes the text of a job into an output of any length, or refuses before a byte is written.
+pub fn sheet_text(s: &[u8], out: &mut [u8]) -> Answer
+    ensures { λ r. ⌜ Prints (now (s .entry)) (now (out .entry)) (now (out .exit)) r ⌝ }
+{
+    let read = job::read(s);
+    let trouble = read.trouble;
+    if let Trouble::At(number, place) = trouble {
+        return Answer::Refused(number, place as u32);
+    }
+    if out.len() < ROOM {
+        return put_by_way(s, read, out);
+    }
+    Answer::Done(put_runs(s, read, out) as u32)
+}

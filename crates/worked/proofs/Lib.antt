@@ -1,2 +1,0 @@
--- The ranges of the worked run.
-pub mod Ranges
