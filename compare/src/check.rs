@@ -4,15 +4,19 @@
 use std::io::{self, Write};
 use std::process::Stdio;
 
+use leverbonnet::pipe::{Call, CommandLine};
+
 use crate::agreement::{agreed, Difference};
-use crate::call::{Call, FINDING_LENGTH, LINES_LENGTH};
-use crate::command::CommandLine;
+use crate::call::{FINDING_LENGTH, LINES_LENGTH};
+use crate::case::Expected;
 use crate::proved::Proved;
 use crate::tally::Tally;
 
 /// Room for the lines and findings of any run, and then some.
 const ROOMY_LINES: usize = LINES_LENGTH + 11;
 const ROOMY_FINDINGS: usize = FINDING_LENGTH * 110;
+
+const TEXT_TO_SPARE: usize = 11;
 
 /// Compares every call on the job. Answers the number of its refusal, 0 if it
 /// is read.
@@ -48,7 +52,43 @@ pub fn library(proved: &Proved, job: &[u8], tally: &mut Tally) -> Result<u32, Di
     for outcome in agreed(&others)? {
         tally.count(&outcome);
     }
+    text(proved, job, counted.refusal(), tally)?;
     Ok(counted.refusal())
+}
+
+/// Compares the job's text, whose reading came to that refusal (0 for none).
+fn text(proved: &Proved, job: &[u8], refusal: u32, tally: &mut Tally) -> Result<(), Difference> {
+    let texts = match refusal {
+        0 => texts_about_need(independent::sheet(job).len()),
+        _ => [TEXT_TO_SPARE, 0]
+            .map(|out_len| (out_len, Expected::Refused(refusal)))
+            .to_vec(),
+    };
+    let calls: Vec<Call> = texts
+        .iter()
+        .map(|&(out_len, _)| Call::SheetText { out_len })
+        .collect();
+    for ((call, outcome), (_, expected)) in
+        calls.iter().zip(agreed(proved, &calls, job)?).zip(texts)
+    {
+        if !expected.admits(outcome.refusal()) {
+            let what = format!("{call:?}");
+            return Err(Difference::unexpected(&what, expected, outcome.refusal()));
+        }
+        tally.count_text(&outcome);
+    }
+    Ok(())
+}
+
+/// Outputs for a text of that length: with room to spare, just serving, a byte
+/// too short, and none.
+fn texts_about_need(needed: usize) -> Vec<(usize, Expected)> {
+    vec![
+        (needed + TEXT_TO_SPARE, Expected::Read),
+        (needed, Expected::Read),
+        (needed - 1, Expected::Refused(9)),
+        (0, Expected::Refused(9)),
+    ]
 }
 
 fn reduce(run: u16, lines_len: usize, findings_len: usize) -> Call {
@@ -107,6 +147,6 @@ fn printed_by(program: &CommandLine, job: &[u8]) -> io::Result<Vec<u8>> {
     }
     match output.status.code() {
         Some(_) => Ok(output.stdout),
-        None => Err(io::Error::other("it was killed")),
+        None => Err(io::Error::new(io::ErrorKind::Other, "it was killed")),
     }
 }

@@ -3,12 +3,12 @@
 
 use std::time::Instant;
 
+use leverbonnet::pipe::{Call, CommandLine};
+
 use crate::agreement::{agreed, Difference};
-use crate::call::Call;
 use crate::case::{Case, Expected};
 use crate::cases::outputs::Outputs;
 use crate::check;
-use crate::command::CommandLine;
 use crate::proved::Proved;
 use crate::report::Failure;
 use crate::shrink::smallest;
@@ -85,7 +85,10 @@ impl Section {
                         let refusal = outcome.refusal();
                         return Err(unexpected(&outputs.case, &what, expected, refusal));
                     }
-                    self.tally.count(&outcome);
+                    match call {
+                        Call::SheetText { .. } => self.tally.count_text(&outcome),
+                        _ => self.tally.count(&outcome),
+                    }
                 }
             }
             self.tally.jobs += 1;
@@ -116,9 +119,11 @@ impl Section {
     }
 
     fn done(self) -> Tally {
-        let Tally { jobs, calls, .. } = self.tally;
+        let Tally {
+            jobs, calls, texts, ..
+        } = self.tally;
         println!(
-            "{}: {jobs} jobs, {calls} calls agree; refusals {} ({})",
+            "{}: {jobs} jobs, {calls} calls agree, {texts} of them texts; refusals {} ({})",
             self.name,
             self.tally.refusals_text(),
             self.taken()
@@ -150,10 +155,6 @@ fn unexpected(case: &Case, what: &str, expected: Expected, refusal: u32) -> Fail
     Failure {
         case: case.name.clone(),
         job: Some(case.subject.bytes()),
-        difference: Difference {
-            what: format!("{what}, where {expected:?} was to come"),
-            proved: format!("refusal {refusal} (0 is success)"),
-            independent: "the same".into(),
-        },
+        difference: Difference::unexpected(what, expected, refusal),
     }
 }

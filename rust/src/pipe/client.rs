@@ -108,7 +108,7 @@ impl Pipe {
         match running.ended() {
             Ok(status) if status.success() && more == 0 => Ok(()),
             Ok(status) => Err(format!(
-                "after the last call {command} wrote {more} more bytes and ended with {status}"
+                "{command} wrote {more} more bytes after the last call and ended with {status}"
             )),
             Err(trouble) => Err(format!("{command} was lost: {trouble}")),
         }
