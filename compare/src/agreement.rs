@@ -60,3 +60,21 @@ pub fn agreed(proved: &Proved, calls: &[Call], job: &[u8]) -> Result<Vec<Outcome
     assert_eq!(outcomes.len(), trials.len(), "every call was made");
     Ok(outcomes.into_iter().step_by(fills.len()).collect())
 }
+
+/// The same, when each call also comes to what was to come of it.
+pub fn agreed_as_expected(
+    proved: &Proved,
+    calls: &[(Call, Expected)],
+    job: &[u8],
+) -> Result<Vec<Outcome>, Difference> {
+    let made: Vec<Call> = calls.iter().map(|&(call, _)| call).collect();
+    let outcomes = agreed(proved, &made, job)?;
+    for (&(call, expected), outcome) in calls.iter().zip(&outcomes) {
+        let refusal = outcome.refusal();
+        if !expected.admits(refusal) {
+            let what = format!("{call:?}");
+            return Err(Difference::unexpected(&what, expected, refusal));
+        }
+    }
+    Ok(outcomes)
+}

@@ -6,7 +6,7 @@ use std::process::Stdio;
 
 use leverbonnet::pipe::{Call, CommandLine};
 
-use crate::agreement::{agreed, Difference};
+use crate::agreement::{agreed, agreed_as_expected, Difference};
 use crate::call::{FINDING_LENGTH, LINES_LENGTH};
 use crate::case::Expected;
 use crate::proved::Proved;
@@ -52,43 +52,33 @@ pub fn library(proved: &Proved, job: &[u8], tally: &mut Tally) -> Result<u32, Di
     for outcome in agreed(&others)? {
         tally.count(&outcome);
     }
-    text(proved, job, counted.refusal(), tally)?;
+    let texts = match counted.refusal() {
+        0 => texts_about_need(independent::sheet(job).len()),
+        number => texts_refused(number),
+    };
+    for outcome in agreed_as_expected(proved, &texts, job)? {
+        tally.count_text(&outcome);
+    }
     Ok(counted.refusal())
 }
 
-/// Compares the job's text, whose reading came to that refusal (0 for none).
-fn text(proved: &Proved, job: &[u8], refusal: u32, tally: &mut Tally) -> Result<(), Difference> {
-    let texts = match refusal {
-        0 => texts_about_need(independent::sheet(job).len()),
-        _ => [TEXT_TO_SPARE, 0]
-            .map(|out_len| (out_len, Expected::Refused(refusal)))
-            .to_vec(),
-    };
-    let calls: Vec<Call> = texts
-        .iter()
-        .map(|&(out_len, _)| Call::SheetText { out_len })
-        .collect();
-    for ((call, outcome), (_, expected)) in
-        calls.iter().zip(agreed(proved, &calls, job)?).zip(texts)
-    {
-        if !expected.admits(outcome.refusal()) {
-            let what = format!("{call:?}");
-            return Err(Difference::unexpected(&what, expected, outcome.refusal()));
-        }
-        tally.count_text(&outcome);
-    }
-    Ok(())
+/// The text of that length with room to spare, in an output that just serves, in
+/// one a byte too short, and in none.
+fn texts_about_need(needed: usize) -> Vec<(Call, Expected)> {
+    let text = |out_len, expected| (Call::SheetText { out_len }, expected);
+    vec![
+        text(needed + TEXT_TO_SPARE, Expected::Read),
+        text(needed, Expected::Read),
+        text(needed - 1, Expected::Refused(9)),
+        text(0, Expected::Refused(9)),
+    ]
 }
 
-/// Outputs for a text of that length: with room to spare, just serving, a byte
-/// too short, and none.
-fn texts_about_need(needed: usize) -> Vec<(usize, Expected)> {
-    vec![
-        (needed + TEXT_TO_SPARE, Expected::Read),
-        (needed, Expected::Read),
-        (needed - 1, Expected::Refused(9)),
-        (0, Expected::Refused(9)),
-    ]
+/// A job that is refused with that number has no text to need any length.
+fn texts_refused(number: u32) -> Vec<(Call, Expected)> {
+    [TEXT_TO_SPARE, 0]
+        .map(|out_len| (Call::SheetText { out_len }, Expected::Refused(number)))
+        .to_vec()
 }
 
 fn reduce(run: u16, lines_len: usize, findings_len: usize) -> Call {

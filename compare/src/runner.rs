@@ -5,8 +5,8 @@ use std::time::Instant;
 
 use leverbonnet::pipe::{Call, CommandLine};
 
-use crate::agreement::{agreed, Difference};
-use crate::case::{Case, Expected};
+use crate::agreement::{agreed, agreed_as_expected, Difference};
+use crate::case::Case;
 use crate::cases::outputs::Outputs;
 use crate::check;
 use crate::proved::Proved;
@@ -43,7 +43,7 @@ impl Section {
             let refusal = check::library(proved, &case.subject.bytes(), &mut self.tally)
                 .map_err(|difference| shrunk(&case, difference, &compared))?;
             if !case.expected.admits(refusal) {
-                return Err(unexpected(&case, "reading", case.expected, refusal));
+                return Err(unexpected(&case, refusal));
             }
         }
         Ok(self.done())
@@ -77,14 +77,9 @@ impl Section {
             for some in outputs.calls().chunks(TOGETHER) {
                 let calls: Vec<Call> = some.iter().map(|&(call, _)| call).collect();
                 let compared = |job: &[u8]| agreed(proved, &calls, job).map(drop);
-                let outcomes = agreed(proved, &calls, &job)
+                let outcomes = agreed_as_expected(proved, some, &job)
                     .map_err(|difference| shrunk(&outputs.case, difference, &compared))?;
-                for (&(call, expected), outcome) in some.iter().zip(outcomes) {
-                    if !expected.admits(outcome.refusal()) {
-                        let what = format!("{call:?}");
-                        let refusal = outcome.refusal();
-                        return Err(unexpected(&outputs.case, &what, expected, refusal));
-                    }
+                for (call, outcome) in calls.iter().zip(outcomes) {
                     match call {
                         Call::SheetText { .. } => self.tally.count_text(&outcome),
                         _ => self.tally.count(&outcome),
@@ -150,11 +145,11 @@ fn shrunk(case: &Case, difference: Difference, compared: Compared) -> Failure {
     }
 }
 
-/// Both sides agree, but not on what the case was made for.
-fn unexpected(case: &Case, what: &str, expected: Expected, refusal: u32) -> Failure {
+/// Both sides agree on the reading, but not on what the case was made for.
+fn unexpected(case: &Case, refusal: u32) -> Failure {
     Failure {
         case: case.name.clone(),
         job: Some(case.subject.bytes()),
-        difference: Difference::unexpected(what, expected, refusal),
+        difference: Difference::unexpected("reading", case.expected, refusal),
     }
 }

@@ -199,3 +199,19 @@ impl fmt::Display for Tally {
         Ok(())
     }
 }
+
+#[cfg(test)]
+mod tests {
+    use super::*;
+
+    #[test]
+    fn a_comparison_without_a_text_has_not_reached_one() {
+        let unreached = Tally::default().unreached_by_reading();
+        assert!(unreached.contains(&"a text".into()));
+        let tally = Tally {
+            texts: 1,
+            ..Tally::default()
+        };
+        assert!(!tally.unreached_by_reading().contains(&"a text".into()));
+    }
+}

@@ -69,12 +69,12 @@ impl Pipe {
 
     /// What to say of a program that stopped within a reply.
     fn lost(&self, mut running: Running, came: usize, length: usize) -> String {
+        let ended = match running.ended() {
+            Ok(status) => format!("ended with {status}"),
+            Err(trouble) => format!("was lost ({trouble})"),
+        };
         let command = &self.command;
-        let came = format!("{came} of {length} bytes came");
-        match running.ended() {
-            Ok(status) => format!("no answer: {command} ended with {status} on this call, {came}"),
-            Err(trouble) => format!("no answer: {command} was lost ({trouble}), {came}"),
-        }
+        format!("{command} {ended} before its reply was complete: {came} of {length} bytes came")
     }
 
     /// Makes one call, and writes into the outputs that are lent to it what the
