@@ -11,6 +11,8 @@ use super::running::Running;
 /// good.
 const MOST_WAITING: usize = 16 * 1_024;
 
+/// A program of its own and the pipe to it. Whoever drops it waits for the
+/// program's end.
 pub struct Pipe {
     command: CommandLine,
     /// None after it was lost.
@@ -18,6 +20,7 @@ pub struct Pipe {
 }
 
 impl Pipe {
+    /// Starts the program; what it writes to standard error is seen on this one's.
     pub fn started(command: CommandLine) -> Result<Self, String> {
         let running = Some(Running::start(&command)?);
         Ok(Pipe { command, running })
