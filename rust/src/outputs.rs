@@ -14,7 +14,7 @@ pub const MOST_ROUND: usize = 24;
 pub const MOST_RECTANGULAR: usize = 2 * 49;
 
 /// It is proved that no job's text has more characters.
-pub const MOST_TEXT: usize = 26_944;
+pub const MOST_TEXT: usize = 27_088;
 
 /// What a successful `reduce` adds to its count when the run is accepted.
 pub const ACCEPTED: u32 = 65_536;

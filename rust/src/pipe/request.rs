@@ -134,10 +134,10 @@ mod tests {
 
     #[test]
     fn a_text_as_bytes() {
-        let call = Call::SheetText { out_len: 26_944 };
-        let header = [6, 0, 0, 0, 0, 0, 0, 0, 0x40, 0x69, 0, 0, 3, 0, 0, 0];
+        let call = Call::SheetText { out_len: 27_088 };
+        let header = [6, 0, 0, 0, 0, 0, 0, 0, 0xD0, 0x69, 0, 0, 3, 0, 0, 0];
         assert_eq!(bytes_of(call, 0, b"SRJ"), [&header[..], b"SRJ"].concat());
-        assert_eq!(reply_length_of(call), 8 + 26_944);
+        assert_eq!(reply_length_of(call), 8 + 27_088);
     }
 
     #[test]
