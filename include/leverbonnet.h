@@ -1,5 +1,5 @@
 /*
- * leverbonnet.h - the five calls of the proved library.
+ * leverbonnet.h - the six calls of the proved library.
  *
  * Every call answers one uint64_t:
  *
@@ -47,13 +47,17 @@ extern "C" {
 #define LEVERBONNET_REFUSAL(answer) ((uint32_t)((answer) >> 32))
 #define LEVERBONNET_VALUE(answer) ((uint32_t)(answer))
 
-/* Bytes of a reduced run's lines, and of one finding. */
-#define LEVERBONNET_LINES_LEN 180
+/* Bytes of one line, of a reduced run's twenty lines, and of one finding. */
+#define LEVERBONNET_LINE_LEN 9
+#define LEVERBONNET_LINES_LEN (20 * LEVERBONNET_LINE_LEN)
 #define LEVERBONNET_FINDING_LEN 4
 
 /* Enough bytes for the findings of any run: it is proved that none has more than
  * 98. */
 #define LEVERBONNET_FINDINGS_MOST (LEVERBONNET_FINDING_LEN * 98)
+
+/* Enough bytes for the text of any job: it is proved that none has more. */
+#define LEVERBONNET_TEXT_MOST 27088
 
 /* Added to the number of findings when the run is accepted. */
 #define LEVERBONNET_ACCEPTED 65536
@@ -85,6 +89,17 @@ uint64_t leverbonnet_run_count(const uint8_t *job, size_t job_len);
  */
 uint64_t leverbonnet_run_number(const uint8_t *job, size_t job_len,
                                 uint16_t index);
+
+/*
+ * Writes the characters that the program `sheet` prints for a job that is read:
+ * each run in file order, its number and whether it stands, its twenty lines,
+ * its findings.
+ *
+ * Succeeds with the number of characters. Answers 9 if the output is shorter
+ * than the text.
+ */
+uint64_t leverbonnet_sheet_text(const uint8_t *job, size_t job_len,
+                                uint8_t *out, size_t out_len);
 
 /*
  * Lays out the points on one diameter of a round stack: points even, 2 to 24;

@@ -17,7 +17,7 @@ use Rattle.output.specs.declared.Answer.{Answer}
 use Rattle.output.specs.declared.Answer.the-variants.{Done, Refused}
 use Rattle.output.specs.Answers.{packed}
 use Rattle.output.specs.Splice.{spliced}
-use Rattle.text.specs.Printing.{printing, printingAnswer, printingOut}
+use Rattle.printing.specs.Printing.{printing, printingAnswer, printingOut}
 use Rattle.layouts.specs.Outcomes.{Outcome as LayoutOutcome, answerOf as layoutAnswer, outOf}
 use Rattle.leverbonnet.specs.Bytes.{sheetBytes, findingsBytes}
 

@@ -1,5 +1,5 @@
 // The public calls. Each takes any bytes and any numbers, and its contract says what comes back and what every lent byte then is.
-// Relies on the reader, on a run's reduction, on the text, on the layouts and on the writes of `output`.
+// Relies on the reader, on a run's reduction, on what is printed, on the layouts and on the writes of `output`.
 
 mod calls;
 mod writing;
@@ -44,7 +44,7 @@ pub extern "C" fn leverbonnet_run_number(job: &[u8], index: u16) -> u64
 pub extern "C" fn leverbonnet_sheet_text(job: &[u8], out: &mut [u8]) -> u64
     ensures { λ r. ⌜ PrintsText (now (job .entry)) (now (out .entry)) (now (out .exit)) r ⌝ }
 {
-    text::calls::sheet_text(job, out).packed()
+    printing::calls::sheet_text(job, out).packed()
 }
 
 // Lays out a round stack: points on the diameter, diameter in 0.1 in, nozzle in 0.001 in; 4 bytes a distance.

@@ -7,9 +7,9 @@ use libc::STDOUT_FILENO;
 fn main() {
     let mut file = io::large_buffer();
     let length = io::read_full(STDIN_FILENO, &mut file);
-    let mut out = [0u8; text::jobs::ROOM];
-    let end = text::jobs::put_job(&file[..length], &mut out);
-    if end <= text::jobs::ROOM {
+    let mut out = [0u8; printing::jobs::ROOM];
+    let end = printing::jobs::put_job(&file[..length], &mut out);
+    if end <= printing::jobs::ROOM {
         io::write_all(STDOUT_FILENO, &out[..end]);
     }
 }

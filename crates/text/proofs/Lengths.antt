@@ -1,4 +1,4 @@
--- How long a text can be: a line, a finding, a run, and all that is printed of a file.
+-- How long a text can be: a line, a finding, a run.
 use Prim.Native.Nat.{ℕ, _+_, _-_, _≤_, _<_}
 use mathlib.Core.Path.{_≡_, refl, ap}
 use mathlib.Core.Bool.{Bool, true, false, cond}
@@ -7,8 +7,6 @@ use native.Mathlib.Omega.{arith}
 use lib.Dec.{eqb}
 use lib.ListN.{length, getD, replicate, length-append, List·getD-append}
 use Rattle.readings.proofs.Ranges.{within-greatest}
-use Rattle.fields.specs.declared.trouble.Trouble.{Trouble}
-use Rattle.fields.specs.declared.trouble.Trouble.the-variants.{Clear, At}
 use Rattle.records.specs.declared.Run.{Run}
 use Rattle.records.specs.InRange.{RunOk}
 use Rattle.lines.specs.declared.Entry.{Entry}
@@ -22,18 +20,13 @@ use Rattle.findings.specs.Rules.{placesOf, placeOf}
 use Rattle.findings.specs.Listing.{noFinding, most, listed, findings, findingsFor, linesFor, Breaks}
 use Rattle.findings.proofs.Members.{listed-exactly}
 use Rattle.findings.proofs.Most.{at-most-for}
-use Rattle.job.specs.Places.{runCountOf, runOf}
-use Rattle.job.specs.Troubles.{jobTrouble}
-use Rattle.job.proofs.ClearJobs.{job-clear, clear-run}
-use Rattle.job.proofs.WholeFile.{run-count}
-use Rattle.reduction.specs.Reducing.{worked, chosenIn, reducedRun}
+use Rattle.reduction.specs.Reducing.{worked}
 use Rattle.characters.specs.Numbers.{decimal}
 use Rattle.characters.specs.Writing.{joined}
-use Rattle.characters.proofs.Decimals.{decimal-short, decimal-digits, signed-short}
+use Rattle.characters.proofs.Decimals.{decimal-digits, signed-short}
 use Rattle.characters.proofs.Texts.{joined-short}
 use Rattle.text.specs.Sheets.{space, newline, valueText, lineText, lineAt, sheetText}
 use Rattle.text.specs.Runs.{className, findingText, findingsText, standing, runWord, runText}
-use Rattle.text.specs.Jobs.{refusedWord, refusalText, runsText, textOf, jobText}
 
 -- of two texts, whichever it is
 either-short : (test : Bool) (a b : List ℕ) (n : ℕ) → length a ≤ n → length b ≤ n → length (cond test a b) ≤ n
@@ -115,13 +108,13 @@ module _ (r : Run) (ch : Chosen) (ok : RunOk r) where
       let all = joined-short (λ i. findingText (getD (fs ++ behind) i noFinding)) (length fs) 12 (λ i inside. rw (List·getD-append fs behind noFinding i inside) (finding-at-short i inside)) in
       omega (arith, all, at-most-for r ch ok)
 
--- A run, and all that is printed of a file
+-- A run
 
 standing-short : (accepted : Bool) → length (standing accepted) ≤ 10
 unfolding standing
 standing-short accepted = either-short accepted _ _ 10 (omega arith) (omega arith)
 
-run-short : (r : Run) (ch : Chosen) → RunOk r → length (runText (worked r ch)) ≤ 1693
+pub run-short : (r : Run) (ch : Chosen) → RunOk r → length (runText (worked r ch)) ≤ 1693
 unfolding runText worked
 run-short r ch ok =
     let number = decimal (r .number) in
@@ -134,27 +127,3 @@ run-short r ch ok =
     let four = length-append (runWord ++ number ++ stands ++ sheet) found in
     let small = within-greatest 1 999 _ (ok .number) in
     omega (arith, one, two, three, four, decimal-digits 2 (r .number) (omega (arith, small)), standing-short (worked r ch .accepted), sheet-short (worked r ch .sheet), found-short r ch ok)
-
-pub runs-short : (s : List ℕ) → jobTrouble s ≡ Clear → length (runsText s (runCountOf s)) ≤ 27088
-unfolding runsText reducedRun
-runs-short s clear =
-    let all = joined-short (λ k. runText (reducedRun s k)) (runCountOf s) 1693 (λ k inside. run-short (runOf s k) (chosenIn s k) (clear-run s clear k inside)) in
-    omega (arith, all, run-count s (job-clear s clear .file))
-
-pub refusal-short : (number place : ℕ) → length (refusalText number place) ≤ 50
-unfolding refusalText
-refusal-short number place =
-    let one = length-append refusedWord (decimal number) in
-    let two = length-append (refusedWord ++ decimal number) space in
-    let three = length-append (refusedWord ++ decimal number ++ space) (decimal place) in
-    let four = length-append (refusedWord ++ decimal number ++ space ++ decimal place) newline in
-    omega (arith, one, two, three, four, decimal-short number, decimal-short place)
-
--- A length that suffices for the text of any file
-pub text-most : (s : List ℕ) → length (jobText s) ≤ 27088
-unfolding jobText
-text-most s = most-of (jobTrouble s) refl
-  where
-    most-of : (t : Trouble) → jobTrouble s ≡ t → length (textOf t s) ≤ 27088
-    most-of Clear e = runs-short s e
-    most-of (At number place) e = omega (arith, refusal-short number place)

@@ -1,3 +1,2 @@
--- How long texts are, and what comes of the call for a job's text.
+-- How long the text of a run can be.
 pub mod Lengths
-pub mod Printing

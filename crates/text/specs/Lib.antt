@@ -1,5 +1,3 @@
--- The characters of a job's sheets, and what comes of the call for them.
+-- The characters of a run.
 pub mod Sheets
 pub mod Runs
-pub mod Jobs
-pub mod Printing

@@ -1,7 +1,4 @@
-// The characters of a job's sheets, and the call that hands them over. Relies on the writers of `characters`, on a run's
-// reduction and on the reader.
+// The characters of a run: its sheet and its findings. Relies on the writers of `characters` and on the types of a reduced run.
 
-pub mod calls;
-pub mod jobs;
 pub mod runs;
 pub mod sheets;

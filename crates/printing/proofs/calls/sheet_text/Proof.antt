@@ -6,11 +6,11 @@ use Rattle.reduction.specs.Reducing.{ClearJob}
 use Rattle.reduction.proofs.ClearJobs.{read-clear, place-fits}
 use Rattle.characters.specs.Writing.{Wrote}
 use Rattle.characters.proofs.Texts.{written-end}
-use Rattle.text.specs.Jobs.{jobText}
-use Rattle.text.proofs.Lengths.{text-most}
-use Rattle.text.proofs.Printing.{text-of-runs, end-fits, refused-by-reader, handed-over, of-clear}
-use Rattle.text.proofs.calls.sheet_text.Statement.{statement}
-use Rattle.text.proofs.calls.sheet_text.Tie as tie
+use Rattle.printing.specs.Jobs.{jobText}
+use Rattle.printing.proofs.Lengths.{text-most}
+use Rattle.printing.proofs.Printing.{text-of-runs, end-fits, refused-by-reader, handed-over, of-clear}
+use Rattle.printing.proofs.calls.sheet_text.Statement.{statement}
+use Rattle.printing.proofs.calls.sheet_text.Tie as tie
 
 read-requires : tie.Need-read-requires
 read-requires c κs = search needs
@@ -37,7 +37,7 @@ returns-2 : tie.Need-returns-2
 returns-2 c = of-clear _ _ (read-clear _ (c .before .before .before .before .before .before .before .read .ensures) (c .before .before .before .before .before .enum-told .given .1)) (c .before .before .put-by-way .ensures)
 
 put-runs-requires : tie.Need-put-runs-requires
-put-runs-requires c κs = (read-clear _ (c .before .before .before .before .read .ensures) (c .before .before .enum-told .given .1), c .before .if1 .left)
+put-runs-requires c κs = (read-clear _ (c .before .before .before .before .read .ensures) (c .before .before .enum-told .given .1), omega (arith, c .before .if1 .left))
 
 -- what was written is the text of the job
 wrote : (c : tie.After-slice-known3) → Wrote (c .before .before .before .before .before .before .before .before .before .before .args .out .now) 0 (jobText (c .before .before .before .before .before .before .before .before .before .before .args .s .now)) (c .before .before .put-runs .last .1 .1 .0) (c .before .before .put-runs .result)

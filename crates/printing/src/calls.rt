@@ -7,7 +7,7 @@ use fields::trouble::Trouble;
 use job::Job;
 use output::Answer;
 ghost use Rattle.reduction.specs.Reducing.{ClearJob};
-ghost use Rattle.text.specs.Printing.{PrintsClear, Prints};
+ghost use Rattle.printing.specs.Printing.{PrintsClear, Prints};
 
 // A lent output that is shorter than the text.
 const TOO_SHORT: u32 = 9;

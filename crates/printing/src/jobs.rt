@@ -1,16 +1,16 @@
 // What the program prints of a file: a refusal, or its runs in file order.
 
-use crate::runs::put_run;
 use characters::put_decimal;
 use characters::put_word;
 use fields::trouble::Trouble;
 use job::Job;
 use reduction::reduce;
+use text::runs::put_run;
 ghost use Prim.Native.Nat.{_≤_};
 ghost use lib.ListN.{length};
 ghost use Rattle.characters.specs.Writing.{Room, Wrote};
 ghost use Rattle.reduction.specs.Reducing.{ClearJob};
-ghost use Rattle.text.specs.Jobs.{refusalText, runsText, jobText};
+ghost use Rattle.printing.specs.Jobs.{refusalText, runsText, jobText};
 
 // Room for the text of any file: sixteen runs, each with all of its findings.
 pub const ROOM: usize = 27088;

@@ -6,11 +6,11 @@ use Rattle.reduction.specs.Reducing.{ClearRun, reducedRun}
 use Rattle.reduction.proofs.ClearJobs.{count-of-runs, few-runs, found-few}
 use Rattle.characters.specs.Writing.{joined, Room, Wrote}
 use Rattle.characters.proofs.Texts.{joined-none, joined-room, joined-more, joined-all}
 use Rattle.text.specs.Runs.{runText}
-use Rattle.text.specs.Jobs.{runsText}
-use Rattle.text.proofs.Lengths.{runs-short}
-use Rattle.text.proofs.jobs.put_runs.Statement.{statement}
-use Rattle.text.proofs.jobs.put_runs.Tie as tie
+use Rattle.printing.specs.Jobs.{runsText}
+use Rattle.printing.proofs.Lengths.{runs-short}
+use Rattle.printing.proofs.jobs.put_runs.Statement.{statement}
+use Rattle.printing.proofs.jobs.put_runs.Tie as tie
 
 abbrev Inv-loop : tie.InvT-loop
 Inv-loop s job out₀ runs next₀ k₀ out next k = (k ≤ runs) × Wrote out₀ 0 (joined (λ i. runText (reducedRun s i)) k) out next

@@ -14,9 +14,9 @@ use Rattle.reduction.specs.Reducing.{ClearJob}
 use Rattle.reduction.proofs.ClearJobs.{count-of-runs, read-refused}
 use Rattle.characters.specs.Writing.{Wrote}
 use Rattle.characters.proofs.Texts.{written-end, written-front}
-use Rattle.text.specs.Jobs.{runsText, jobText}
-use Rattle.text.specs.Printing.{Printing, ifRoomy, printing, printingAnswer, printingOut, Printed, PrintsClear, Prints}
-use Rattle.text.proofs.Lengths.{text-most}
+use Rattle.printing.specs.Jobs.{runsText, jobText}
+use Rattle.printing.specs.Printing.{Printing, ifRoomy, printing, printingAnswer, printingOut, Printed, PrintsClear, Prints}
+use Rattle.printing.proofs.Lengths.{text-most}
 
 -- the text of a job without trouble is that of its runs
 pub text-of-runs : (s : List ℕ) (j : Job) → ClearJob s j → runsText s (j .runs) ≡ jobText s

@@ -9,11 +9,11 @@ use Rattle.job.specs.declared.Job.{Job}
 use Rattle.job.specs.Reading.{readJob}
 use Rattle.reduction.proofs.ClearJobs.{read-refused, read-clear}
 use Rattle.characters.specs.Writing.{Wrote}
-use Rattle.text.specs.Jobs.{refusalText, jobText}
-use Rattle.text.proofs.Lengths.{refusal-short}
-use Rattle.text.proofs.Printing.{text-of-runs}
-use Rattle.text.proofs.jobs.put_job.Statement.{statement}
-use Rattle.text.proofs.jobs.put_job.Tie as tie
+use Rattle.printing.specs.Jobs.{refusalText, jobText}
+use Rattle.printing.proofs.Lengths.{refusal-short}
+use Rattle.printing.proofs.Printing.{text-of-runs}
+use Rattle.printing.proofs.jobs.put_job.Statement.{statement}
+use Rattle.printing.proofs.jobs.put_job.Tie as tie
 
 refused : (s : List ℕ) {old out : List ℕ} {j : Job} {n p next : ℕ} → j ≡ readJob s → j .trouble ≡ At n p → Wrote old 0 (refusalText n p) out next → Wrote old 0 (jobText s) out next
 unfolding jobText

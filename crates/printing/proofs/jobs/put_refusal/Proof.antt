@@ -4,10 +4,10 @@ use mathlib.Core.List.{_++_}
 use Rattle.characters.specs.Numbers.{decimal}
 use Rattle.characters.specs.Writing.{Room}
 use Rattle.characters.proofs.Texts.{room-front, room-first, room-second, room-third, room-fourth, room-fifth, wrote-five}
 use Rattle.text.specs.Sheets.{space, newline}
-use Rattle.text.specs.Jobs.{refusedWord, refusalText}
-use Rattle.text.proofs.jobs.put_refusal.Statement.{statement}
-use Rattle.text.proofs.jobs.put_refusal.Tie as tie
+use Rattle.printing.specs.Jobs.{refusedWord, refusalText}
+use Rattle.printing.proofs.jobs.put_refusal.Statement.{statement}
+use Rattle.printing.proofs.jobs.put_refusal.Tie as tie
 
 -- room for the five parts, and for the first four of them
 room : (c : tie.Start) → Room (c .args .out .now) (c .args .at) (refusedWord ++ decimal (c .args .number) ++ space ++ decimal (c .args .place) ++ newline)

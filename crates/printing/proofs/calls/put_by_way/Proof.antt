@@ -5,11 +5,11 @@ use mathlib.Core.Path.{_∙_, sym, ap}
 use native.Mathlib.Omega.{arith}
 use lib.ListN.{length, length-replicate}
 use Rattle.characters.proofs.Texts.{written-end}
-use Rattle.text.specs.Jobs.{jobText}
-use Rattle.text.proofs.Lengths.{text-most}
-use Rattle.text.proofs.Printing.{text-of-runs, end-fits, refused-short, handed-over, Beside, beside}
-use Rattle.text.proofs.calls.put_by_way.Statement.{statement}
-use Rattle.text.proofs.calls.put_by_way.Tie as tie
+use Rattle.printing.specs.Jobs.{jobText}
+use Rattle.printing.proofs.Lengths.{text-most}
+use Rattle.printing.proofs.Printing.{text-of-runs, end-fits, refused-short, handed-over, Beside, beside}
+use Rattle.printing.proofs.calls.put_by_way.Statement.{statement}
+use Rattle.printing.proofs.calls.put_by_way.Tie as tie
 
 slice-aggregate-put-runs : tie.Need-slice-aggregate-put-runs
 slice-aggregate-put-runs c = search needs
@@ -25,7 +25,7 @@ text c =
     beside (rw (text-of-runs _ _ (start .pre)) at (c .before .put-runs .ensures)) (omega (arith, size, text-most (start .args .s .now)))
 
 returns : tie.Need-returns
-returns c = refused-short _ _ (text (c .before) .whole) (c .if1 .taken)
+returns c = refused-short _ _ (text (c .before) .whole) (omega (arith, c .if1 .taken))
 
 array-share-prefix-way : tie.Need-array-share-prefix-way
 array-share-prefix-way c = text (c .before .before) .inside
