@@ -1,6 +1,6 @@
 //! Links the proved library's archive: `target/staticlib/libleverbonnet.a` of
 //! the workspace, or the one in LEVERBONNET_LIB_DIR. The archive is for x86-64;
-//! for another processor there is nothing to link, and the package is empty.
+//! for another processor, or with the feature `piped`, nothing is linked.
 
 use std::env;
 use std::path::{Path, PathBuf};
@@ -13,12 +13,9 @@ const PROCESSOR: &str = "x86_64";
 fn main() -> ExitCode {
     println!("cargo:rerun-if-env-changed={OVERRIDE}");
     let processor = env::var("CARGO_CFG_TARGET_ARCH").expect("cargo names the processor");
-    if processor != PROCESSOR {
+    let piped = env::var_os("CARGO_FEATURE_PIPED").is_some();
+    if processor != PROCESSOR || piped {
         println!("cargo:rerun-if-changed=build.rs");
-        println!(
-            "cargo:warning=The proved library's archive is for x86-64: on {processor} nothing \
-             is linked, and this package has no calls."
-        );
         return ExitCode::SUCCESS;
     }
     linked()

@@ -42,7 +42,7 @@ pub fn measured(subject: &Subject) -> Measured {
         findings: [0; FINDINGS_LENGTH],
     };
     assert_eq!(
-        called(leverbonnet::reduce, subject, &mut buffers),
+        called(leverbonnet::linked::reduce, subject, &mut buffers),
         called(independent::reduce, subject, &mut buffers),
         "the two sides answer alike"
     );
@@ -51,7 +51,12 @@ pub fn measured(subject: &Subject) -> Measured {
     let mut independent = Vec::with_capacity(BATCHES);
     for batch in 0..BATCHES {
         let mut time_proved = |buffers: &mut Buffers| {
-            proved.push(nanoseconds(leverbonnet::reduce, subject, buffers, calls));
+            proved.push(nanoseconds(
+                leverbonnet::linked::reduce,
+                subject,
+                buffers,
+                calls,
+            ));
         };
         // Who goes first changes from batch to batch.
         if batch % 2 == 0 {

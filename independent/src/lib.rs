@@ -1,4 +1,4 @@
-//! The independent program: the same five calls and the same printed sheet as
+//! The independent program: the same six calls and the same printed sheet as
 //! the proved library, written from the rules alone. It shares nothing with the
 //! library, so that where the two agree neither can be repeating the other's slip.
 //!
@@ -92,4 +92,10 @@ pub fn rect_layout(points: u16, first: u16, second: u16, out: &mut [u8]) -> u64 
         let distances: Vec<u32> = centers.into_iter().flatten().collect();
         layout::write(&distances, out)
     }))
+}
+
+/// Writes the printed sheets of a job that is read. Succeeds with the number of
+/// characters written.
+pub fn sheet_text(job: &[u8], out: &mut [u8]) -> u64 {
+    answered(read(job).and_then(|job| print::write(&job, out)))
 }

@@ -1,5 +1,6 @@
 //! The printed sheet of a whole job.
 
+use crate::answer::{Reason, Refusal};
 use crate::findings::Finding;
 use crate::job::Job;
 use crate::read::read;
@@ -12,6 +13,17 @@ pub fn sheet(job: &[u8]) -> Vec<u8> {
         Err(refusal) => format!("REFUSED {} {}\n", refusal.number(), refusal.place),
     };
     text.into_bytes()
+}
+
+/// Writes the text of all runs and answers how many characters it has; none when
+/// the output is too short for all of them.
+pub fn write(job: &Job, out: &mut [u8]) -> Result<u32, Refusal> {
+    let text = runs(job);
+    match out.get_mut(..text.len()) {
+        Some(front) => front.copy_from_slice(text.as_bytes()),
+        None => return Err(Refusal::new(Reason::OutputTooShort, 0)),
+    }
+    Ok(text.len() as u32)
 }
 
 fn runs(job: &Job) -> String {

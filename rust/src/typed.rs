@@ -1,38 +1,11 @@
-//! The same calls over Rust types: what succeeded, or a refusal.
+//! The calls over Rust types: what succeeded, or why nothing did.
 
-use std::fmt;
-
-use crate::plain;
-
-pub const LINE_COUNT: usize = 20;
-const LINE_LENGTH: usize = 9;
-const FINDING_LENGTH: usize = 4;
-const DISTANCE_LENGTH: usize = 4;
-
-/// It is proved that no run has more findings.
-const MOST_FINDINGS: usize = 98;
-
-/// The largest layouts: 24 points on a diameter, and 49 cells of two distances.
-const MOST_ROUND: usize = 24;
-const MOST_RECTANGULAR: usize = 2 * 49;
-
-/// What a successful `reduce` adds to its count when the run is accepted.
-const ACCEPTED: u32 = 65_536;
-
-/// A refusal's number, 1 to 11, and its place in the job.
-#[derive(Clone, Copy, Debug, PartialEq, Eq)]
-pub struct Refusal {
-    pub number: u32,
-    pub place: u32,
-}
-
-impl fmt::Display for Refusal {
-    fn fmt(&self, f: &mut fmt::Formatter) -> fmt::Result {
-        write!(f, "refusal {} at {}", self.number, self.place)
-    }
-}
-
-impl std::error::Error for Refusal {}
+use crate::error::Error;
+use crate::outputs::{
+    ACCEPTED, DISTANCE_LENGTH, FINDING_LENGTH, LINES_LENGTH, LINE_COUNT, LINE_LENGTH,
+    MOST_FINDINGS, MOST_RECTANGULAR, MOST_ROUND, MOST_TEXT,
+};
+use crate::way::{calls, Answer};
 
 #[derive(Clone, Copy, Debug, PartialEq, Eq)]
 pub enum Class {
@@ -57,10 +30,10 @@ pub struct Reduced {
 }
 
 /// Works the run of that number.
-pub fn reduce_run(job: &[u8], number: u16) -> Result<Reduced, Refusal> {
-    let mut lines = [0; LINE_COUNT * LINE_LENGTH];
+pub fn reduce_run(job: &[u8], number: u16) -> Result<Reduced, Error> {
+    let mut lines = [0; LINES_LENGTH];
     let mut findings = [0; MOST_FINDINGS * FINDING_LENGTH];
-    let value = taken_apart(plain::reduce(job, number, &mut lines, &mut findings))?;
+    let value = calls::reduce(job, number, &mut lines, &mut findings).value()?;
     let count = (value % ACCEPTED) as usize;
     Ok(Reduced {
         accepted: value >= ACCEPTED,
@@ -70,24 +43,24 @@ pub fn reduce_run(job: &[u8], number: u16) -> Result<Reduced, Refusal> {
 }
 
 /// The numbers of the job's runs in file order.
-pub fn run_numbers(job: &[u8]) -> Result<Vec<u16>, Refusal> {
-    let count = taken_apart(plain::run_count(job))? as u16;
+pub fn run_numbers(job: &[u8]) -> Result<Vec<u16>, Error> {
+    let count = calls::run_count(job).value()? as u16;
     (0..count)
-        .map(|index| taken_apart(plain::run_number(job, index)).map(|number| number as u16))
+        .map(|index| Ok(calls::run_number(job, index).value()? as u16))
         .collect()
 }
 
 /// The distances of the points on a round stack's diameter, 0.001 in.
-pub fn round_distances(points: u16, diameter: u16, nozzle: u16) -> Result<Vec<u32>, Refusal> {
+pub fn round_distances(points: u16, diameter: u16, nozzle: u16) -> Result<Vec<u32>, Error> {
     let mut out = [0; MOST_ROUND * DISTANCE_LENGTH];
-    let written = taken_apart(plain::round_layout(points, diameter, nozzle, &mut out))?;
+    let written = calls::round_layout(points, diameter, nozzle, &mut out).value()?;
     Ok(distances_from(&out[..written as usize]))
 }
 
 /// The centers of a rectangular stack's cells, 0.001 in along each side.
-pub fn rect_distances(points: u16, first: u16, second: u16) -> Result<Vec<[u32; 2]>, Refusal> {
+pub fn rect_distances(points: u16, first: u16, second: u16) -> Result<Vec<[u32; 2]>, Error> {
     let mut out = [0; MOST_RECTANGULAR * DISTANCE_LENGTH];
-    let written = taken_apart(plain::rect_layout(points, first, second, &mut out))?;
+    let written = calls::rect_layout(points, first, second, &mut out).value()?;
     let distances = distances_from(&out[..written as usize]);
     Ok(distances
         .chunks_exact(2)
@@ -95,15 +68,15 @@ pub fn rect_distances(points: u16, first: u16, second: u16) -> Result<Vec<[u32; 
         .collect())
 }
 
-fn taken_apart(answer: u64) -> Result<u32, Refusal> {
-    let (number, low) = ((answer >> 32) as u32, answer as u32);
-    match number {
-        0 => Ok(low),
-        _ => Err(Refusal { number, place: low }),
-    }
+/// The characters that the program `sheet` prints for a job that is read.
+pub fn sheet_text(job: &[u8]) -> Result<Vec<u8>, Error> {
+    let mut out = vec![0; MOST_TEXT];
+    let written = calls::sheet_text(job, &mut out).value()?;
+    out.truncate(written as usize);
+    Ok(out)
 }
 
-fn lines_from(bytes: &[u8; LINE_COUNT * LINE_LENGTH]) -> [Option<i64>; LINE_COUNT] {
+fn lines_from(bytes: &[u8; LINES_LENGTH]) -> [Option<i64>; LINE_COUNT] {
     std::array::from_fn(|k| {
         let line = &bytes[k * LINE_LENGTH..][..LINE_LENGTH];
         let value = i64::from_le_bytes(std::array::from_fn(|i| line[1 + i]));

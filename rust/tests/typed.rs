@@ -1,9 +1,10 @@
-//! The typed calls on the proved library.
+//! The typed calls, by the way that this build has. Over the pipe they need the
+//! program `calls`, named in LEVERBONNET_CALLS.
 
-#![cfg(target_arch = "x86_64")]
+use std::thread;
 
 use leverbonnet::{
-    rect_distances, reduce_run, round_distances, run_numbers, Class, Finding, Refusal,
+    rect_distances, reduce_run, round_distances, run_numbers, Class, Error, Finding, Refusal,
 };
 
 const WORKED: &[u8] = include_bytes!("../../examples/worked.job");
@@ -55,12 +56,12 @@ fn runs_in_file_order() {
 
 #[test]
 fn refusals() {
-    let refusal = |number, place| Refusal { number, place };
-    assert_eq!(reduce_run(&[], 7), Err(refusal(1, 0)));
-    assert_eq!(run_numbers(REFUSED), Err(refusal(5, 167)));
-    assert_eq!(reduce_run(WORKED, 8), Err(refusal(10, 0)));
-    assert_eq!(round_distances(3, 240, 250), Err(refusal(11, 0)));
-    assert_eq!(rect_distances(8, 240, 240), Err(refusal(11, 0)));
+    let refused = |number, place| Error::Refused(Refusal { number, place });
+    assert_eq!(reduce_run(&[], 7), Err(refused(1, 0)));
+    assert_eq!(run_numbers(REFUSED), Err(refused(5, 167)));
+    assert_eq!(reduce_run(WORKED, 8), Err(refused(10, 0)));
+    assert_eq!(round_distances(3, 240, 250), Err(refused(11, 0)));
+    assert_eq!(rect_distances(8, 240, 240), Err(refused(11, 0)));
 }
 
 #[test]
@@ -72,4 +73,16 @@ fn layouts() {
     assert_eq!(cells.len(), 12);
     assert_eq!(cells[..2], [[5_000, 5_000], [15_000, 5_000]]);
     assert_eq!(cells[11], [35_000, 25_000]);
+}
+
+#[test]
+fn threads_that_call_at_once_get_their_own_answers() {
+    let callers: Vec<_> = (2..=24)
+        .step_by(2)
+        .map(|points| thread::spawn(move || (points, round_distances(points, 1_000, 250))))
+        .collect();
+    for caller in callers {
+        let (points, distances) = caller.join().unwrap();
+        assert_eq!(distances.unwrap().len(), usize::from(points));
+    }
 }

@@ -5,11 +5,11 @@ use crate::call::Side;
 #[cfg(target_arch = "x86_64")]
 pub fn side() -> Option<Side> {
     Some(Side {
-        reduce: leverbonnet::reduce,
-        run_count: leverbonnet::run_count,
-        run_number: leverbonnet::run_number,
-        round_layout: leverbonnet::round_layout,
-        rect_layout: leverbonnet::rect_layout,
+        reduce: leverbonnet::linked::reduce,
+        run_count: leverbonnet::linked::run_count,
+        run_number: leverbonnet::linked::run_number,
+        round_layout: leverbonnet::linked::round_layout,
+        rect_layout: leverbonnet::linked::rect_layout,
     })
 }
 

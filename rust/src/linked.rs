@@ -1,4 +1,5 @@
-//! The five calls as the library gives them, over slices.
+//! The six calls of the archive linked into this program, over slices. Each
+//! answers the library's own word, as [the package](crate) says.
 
 mod library {
     extern "C" {
@@ -28,6 +29,13 @@ mod library {
             points: u16,
             first: u16,
             second: u16,
+            out: *mut u8,
+            out_len: usize,
+        ) -> u64;
+
+        pub fn leverbonnet_sheet_text(
+            job: *const u8,
+            job_len: usize,
             out: *mut u8,
             out_len: usize,
         ) -> u64;
@@ -79,4 +87,13 @@ pub fn round_layout(points: u16, diameter: u16, nozzle: u16, out: &mut [u8]) -> 
 pub fn rect_layout(points: u16, first: u16, second: u16, out: &mut [u8]) -> u64 {
     // SAFETY: the pointer heads a slice of that length, and is not kept.
     unsafe { library::leverbonnet_rect_layout(points, first, second, out.as_mut_ptr(), out.len()) }
+}
+
+/// Writes the characters that the program `sheet` prints for a job that is read.
+/// Succeeds with how many there are; [`MOST_TEXT`](crate::MOST_TEXT) bytes always
+/// suffice.
+pub fn sheet_text(job: &[u8], out: &mut [u8]) -> u64 {
+    // SAFETY: each pointer comes with the length of the slice it heads, the
+    // borrows keep the slices alive and apart, and the library keeps no pointer.
+    unsafe { library::leverbonnet_sheet_text(job.as_ptr(), job.len(), out.as_mut_ptr(), out.len()) }
 }

@@ -1,0 +1,20 @@
+//! What the calls write: how long it is, and the most that it can be.
+
+pub const LINE_COUNT: usize = 20;
+pub const LINE_LENGTH: usize = 9;
+pub const LINES_LENGTH: usize = LINE_COUNT * LINE_LENGTH;
+pub const FINDING_LENGTH: usize = 4;
+pub const DISTANCE_LENGTH: usize = 4;
+
+/// It is proved that no run has more findings.
+pub const MOST_FINDINGS: usize = 98;
+
+/// The largest layouts: 24 points on a diameter, and 49 cells of two distances.
+pub const MOST_ROUND: usize = 24;
+pub const MOST_RECTANGULAR: usize = 2 * 49;
+
+/// It is proved that no job's text has more characters.
+pub const MOST_TEXT: usize = 26_944;
+
+/// What a successful `reduce` adds to its count when the run is accepted.
+pub const ACCEPTED: u32 = 65_536;

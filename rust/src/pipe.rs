@@ -1,0 +1,85 @@
+//! The same calls over a pipe to the program `calls`, which makes them.
+//!
+//! The six functions here ask one program for the whole process, whose command
+//! line is in the variable LEVERBONNET_CALLS, its words one a line. It is started
+//! at the first call, and again at the next call after it was lost. Each function
+//! answers the library's own word, as [the package](crate) says, or why no answer
+//! came; then no lent byte was changed.
+//!
+//! A [`Pipe`] asks a program of its own, many calls at a time.
+
+mod call;
+mod client;
+mod command;
+mod request;
+mod running;
+mod shared;
+
+pub use call::Call;
+pub use client::Pipe;
+pub use command::CommandLine;
+pub use request::{Reply, Request};
+
+/// Works the run of that number into `lines` (20 of 9 bytes) and `findings` (4
+/// bytes each). Succeeds with the number of findings, plus 65,536 if accepted.
+pub fn reduce(
+    job: &[u8],
+    run_number: u16,
+    lines: &mut [u8],
+    findings: &mut [u8],
+) -> Result<u64, String> {
+    let call = Call::Reduce {
+        run: run_number,
+        lines_len: lines.len(),
+        findings_len: findings.len(),
+    };
+    shared::answer(call, job, [lines, findings])
+}
+
+/// Succeeds with the number of runs.
+pub fn run_count(job: &[u8]) -> Result<u64, String> {
+    shared::answer(Call::RunCount, job, [&mut [], &mut []])
+}
+
+/// Succeeds with the number of the run at that index, counted from 0; past the
+/// last run, refusal 10.
+pub fn run_number(job: &[u8], index: u16) -> Result<u64, String> {
+    shared::answer(Call::RunNumber { index }, job, [&mut [], &mut []])
+}
+
+/// Writes the distances of the points on a round stack's diameter, u32 each.
+/// Succeeds with the number of bytes written.
+pub fn round_layout(
+    points: u16,
+    diameter: u16,
+    nozzle: u16,
+    out: &mut [u8],
+) -> Result<u64, String> {
+    let call = Call::RoundLayout {
+        points,
+        diameter,
+        nozzle,
+        out_len: out.len(),
+    };
+    shared::answer(call, &[], [out, &mut []])
+}
+
+/// Writes the centers of a rectangular stack's cells, two u32 each. Succeeds
+/// with the number of bytes written.
+pub fn rect_layout(points: u16, first: u16, second: u16, out: &mut [u8]) -> Result<u64, String> {
+    let call = Call::RectLayout {
+        points,
+        first,
+        second,
+        out_len: out.len(),
+    };
+    shared::answer(call, &[], [out, &mut []])
+}
+
+/// Writes the characters that the program `sheet` prints for a job that is read.
+/// Succeeds with how many there are; [`MOST_TEXT`](crate::MOST_TEXT) bytes always
+/// suffice.
+pub fn sheet_text(job: &[u8], out: &mut [u8]) -> Result<u64, String> {
+    let out_len = out.len();
+    shared::answer(Call::SheetText { out_len }, job, [out, &mut []])
+}

@@ -1,0 +1,173 @@
+//! A call as bytes, all numbers little-endian. A request is a header of 16 bytes
+//! and then the job's:
+//!
+//! ```text
+//! 0   u8    1 reduce, 2 run count, 3 run number, 4 round layout,
+//!           5 rectangular layout, 6 sheet text
+//! 1   u8    what every byte of the outputs holds before the call
+//! 2   u16   the run; the index; the points
+//! 4   u16   the diameter; the first side
+//! 6   u16   the nozzle; the second side
+//! 8   u16   the length of the lines, or of the only output
+//! 10  u16   the length of the findings, at most 4,096
+//! 12  u32   the length of the job, at most 65,536
+//! ```
+//!
+//! The reply to it is the answer as a u64 and then the outputs, each at its whole
+//! length.
+
+use super::call::Call;
+
+const ANSWER_LENGTH: usize = 8;
+
+/// The longest outputs that a request can ask for. No call writes that much, so
+/// a longer one that is lent gets the same answer and the same bytes.
+const MOST_OUTPUT: [usize; 2] = [65_535, 4_096];
+
+/// The longest job that is sent. Nothing past the first 17,162 bytes of a job
+/// changes an answer (theorem `prefix`), so a longer one is cut.
+const MOST_JOB: usize = 65_536;
+
+/// A call, and what every byte of its outputs holds before it.
+#[derive(Clone, Copy, Debug, PartialEq, Eq)]
+pub struct Request {
+    pub call: Call,
+    pub fill: u8,
+}
+
+/// What came back for a request: the library's own word, and both outputs as the
+/// call left them (empty where none is lent).
+#[derive(Clone, Debug, PartialEq, Eq)]
+pub struct Reply {
+    pub answer: u64,
+    pub outputs: [Vec<u8>; 2],
+}
+
+impl Request {
+    pub(super) fn append_to(self, bytes: &mut Vec<u8>, job: &[u8]) {
+        let (number, arguments) = match self.call {
+            Call::Reduce { run, .. } => (1, [run, 0, 0]),
+            Call::RunCount => (2, [0; 3]),
+            Call::RunNumber { index } => (3, [index, 0, 0]),
+            Call::RoundLayout {
+                points,
+                diameter,
+                nozzle,
+                ..
+            } => (4, [points, diameter, nozzle]),
+            Call::RectLayout {
+                points,
+                first,
+                second,
+                ..
+            } => (5, [points, first, second]),
+            Call::SheetText { .. } => (6, [0; 3]),
+        };
+        let lengths = self.sent_lengths().map(|length| length as u16);
+        let job = &job[..job.len().min(MOST_JOB)];
+        bytes.extend([number, self.fill]);
+        for word in arguments.into_iter().chain(lengths) {
+            bytes.extend(word.to_le_bytes());
+        }
+        bytes.extend((job.len() as u32).to_le_bytes());
+        bytes.extend(job);
+    }
+
+    pub(super) fn reply_length(self) -> usize {
+        ANSWER_LENGTH + self.sent_lengths().iter().sum::<usize>()
+    }
+
+    /// From as many bytes as its reply has.
+    pub(super) fn reply(self, bytes: &[u8]) -> Reply {
+        let (answer, outputs) = bytes.split_at(ANSWER_LENGTH);
+        let (first, second) = outputs.split_at(self.sent_lengths()[0]);
+        Reply {
+            answer: u64::from_le_bytes(answer.try_into().expect("an answer is a u64")),
+            outputs: [first.to_vec(), second.to_vec()],
+        }
+    }
+
+    fn sent_lengths(self) -> [usize; 2] {
+        let lent = self.call.output_lengths();
+        std::array::from_fn(|k| lent.get(k).map_or(0, |&length| length.min(MOST_OUTPUT[k])))
+    }
+}
+
+#[cfg(test)]
+mod tests {
+    use super::*;
+
+    fn bytes_of(call: Call, fill: u8, job: &[u8]) -> Vec<u8> {
+        let mut bytes = vec![];
+        Request { call, fill }.append_to(&mut bytes, job);
+        bytes
+    }
+
+    fn reply_length_of(call: Call) -> usize {
+        Request { call, fill: 0 }.reply_length()
+    }
+
+    #[test]
+    fn a_reduce_as_bytes() {
+        let call = Call::Reduce {
+            run: 0x0201,
+            lines_len: 180,
+            findings_len: 420,
+        };
+        let header = [1, 0x5A, 1, 2, 0, 0, 0, 0, 180, 0, 0xA4, 1, 3, 0, 0, 0];
+        assert_eq!(bytes_of(call, 0x5A, b"SRJ"), [&header[..], b"SRJ"].concat());
+        assert_eq!(reply_length_of(call), 8 + 180 + 420);
+    }
+
+    #[test]
+    fn a_layout_as_bytes() {
+        let call = Call::RectLayout {
+            points: 9,
+            first: 300,
+            second: 400,
+            out_len: 72,
+        };
+        let bytes = [5, 0, 9, 0, 44, 1, 144, 1, 72, 0, 0, 0, 0, 0, 0, 0];
+        assert_eq!(bytes_of(call, 0, &[]), bytes);
+        assert_eq!(reply_length_of(call), 8 + 72);
+    }
+
+    #[test]
+    fn a_text_as_bytes() {
+        let call = Call::SheetText { out_len: 26_944 };
+        let header = [6, 0, 0, 0, 0, 0, 0, 0, 0x40, 0x69, 0, 0, 3, 0, 0, 0];
+        assert_eq!(bytes_of(call, 0, b"SRJ"), [&header[..], b"SRJ"].concat());
+        assert_eq!(reply_length_of(call), 8 + 26_944);
+    }
+
+    #[test]
+    fn longer_outputs_are_asked_for_as_far_as_a_request_can() {
+        let call = Call::Reduce {
+            run: 7,
+            lines_len: 65_536,
+            findings_len: 70_000,
+        };
+        let bytes = bytes_of(call, 0, &[]);
+        assert_eq!(bytes[8..12], [0xFF, 0xFF, 0, 0x10]);
+        assert_eq!(reply_length_of(call), 8 + 65_535 + 4_096);
+    }
+
+    #[test]
+    fn a_longer_job_is_cut() {
+        let bytes = bytes_of(Call::RunCount, 0, &[7; 65_537]);
+        assert_eq!(bytes[12..16], [0, 0, 1, 0]);
+        assert_eq!(bytes.len(), 16 + 65_536);
+    }
+
+    #[test]
+    fn a_reply_taken_apart() {
+        let call = Call::Reduce {
+            run: 7,
+            lines_len: 2,
+            findings_len: 1,
+        };
+        let reply = Request { call, fill: 0 }.reply(&[1, 0, 0, 0, 9, 0, 0, 0, 21, 22, 23]);
+        assert_eq!(reply.answer, 9 << 32 | 1);
+        assert_eq!(reply.outputs, [vec![21, 22], vec![23]]);
+    }
+}

@@ -1,0 +1,106 @@
+//! The plain calls, by the way that the typed ones go: what each lent byte is
+//! afterwards.
+
+#[cfg(all(target_arch = "x86_64", not(feature = "piped")))]
+use leverbonnet::linked as calls;
+#[cfg(not(all(target_arch = "x86_64", not(feature = "piped"))))]
+use leverbonnet::pipe as calls;
+
+use leverbonnet::MOST_TEXT;
+
+const WORKED: &[u8] = include_bytes!("../../examples/worked.job");
+const WORKED_TEXT: &[u8] = include_bytes!("../../examples/worked.txt");
+
+const UNTOUCHED: u8 = 0xA5;
+const TOO_SHORT: u64 = 9 << 32;
+const ACCEPTED: u64 = 65_536;
+
+/// The library's own word, by either way.
+trait Answer {
+    fn word(self) -> u64;
+}
+
+impl Answer for u64 {
+    fn word(self) -> u64 {
+        self
+    }
+}
+
+impl Answer for Result<u64, String> {
+    fn word(self) -> u64 {
+        self.unwrap()
+    }
+}
+
+fn untouched(bytes: &[u8]) -> bool {
+    bytes.iter().all(|&byte| byte == UNTOUCHED)
+}
+
+#[test]
+fn reduce_writes_the_lines_and_findings_and_nothing_beyond() {
+    let mut lines = [UNTOUCHED; 200];
+    let mut findings = [UNTOUCHED; 40];
+    let answer = calls::reduce(WORKED, 7, &mut lines, &mut findings).word();
+    assert_eq!(answer, ACCEPTED + 1);
+    assert_eq!(lines[..9], [1, 0x10, 0x0E, 0, 0, 0, 0, 0, 0]);
+    assert_eq!(lines[171..180], [1, 0x67, 0x10, 0, 0, 0, 0, 0, 0]);
+    assert_eq!(findings[..4], [11, 2, 1, 0]);
+    assert!(untouched(&lines[180..]) && untouched(&findings[4..]));
+}
+
+#[test]
+fn a_refused_reduce_changes_no_byte() {
+    for (lines_len, findings_len) in [(179, 4), (180, 3), (0, 0)] {
+        let mut lines = vec![UNTOUCHED; lines_len];
+        let mut findings = vec![UNTOUCHED; findings_len];
+        let answer = calls::reduce(WORKED, 7, &mut lines, &mut findings).word();
+        assert_eq!(answer, TOO_SHORT);
+        assert!(untouched(&lines) && untouched(&findings));
+    }
+}
+
+#[test]
+fn layouts_write_their_distances_and_nothing_beyond() {
+    let mut out = [UNTOUCHED; 100];
+    assert_eq!(calls::round_layout(2, 1_000, 250, &mut out).word(), 8);
+    assert!(untouched(&out[8..]) && !untouched(&out[..8]));
+    let mut out = [UNTOUCHED; 100];
+    assert_eq!(calls::rect_layout(9, 300, 300, &mut out).word(), 72);
+    assert_eq!(out[..8], [0x88, 0x13, 0, 0, 0x88, 0x13, 0, 0]);
+    assert!(untouched(&out[72..]));
+}
+
+#[test]
+fn a_refused_layout_changes_no_byte() {
+    let mut out = [UNTOUCHED; 71];
+    assert_eq!(calls::rect_layout(9, 300, 300, &mut out).word(), TOO_SHORT);
+    assert!(untouched(&out));
+}
+
+#[test]
+fn a_text_is_written_and_nothing_beyond() {
+    let length = WORKED_TEXT.len();
+    for room in [length, length + 1, MOST_TEXT, 70_000] {
+        let mut out = vec![UNTOUCHED; room];
+        assert_eq!(calls::sheet_text(WORKED, &mut out).word(), length as u64);
+        assert_eq!(&out[..length], WORKED_TEXT);
+        assert!(untouched(&out[length..]));
+    }
+}
+
+#[test]
+fn a_text_too_long_by_one_changes_no_byte() {
+    let mut out = vec![UNTOUCHED; WORKED_TEXT.len() - 1];
+    assert_eq!(calls::sheet_text(WORKED, &mut out).word(), TOO_SHORT);
+    assert!(untouched(&out));
+}
+
+#[test]
+fn the_text_of_a_refused_job_changes_no_byte() {
+    let mut out = [UNTOUCHED; MOST_TEXT];
+    assert_eq!(
+        calls::sheet_text(&WORKED[..9], &mut out).word(),
+        1 << 32 | 9
+    );
+    assert!(untouched(&out));
+}
