@@ -2,24 +2,27 @@
 
 use std::env;
 use std::os::unix::process::CommandExt;
-use std::path::Path;
+use std::path::{Path, PathBuf};
 use std::process::Command;
 
 use crate::complaint::shown;
 use crate::standard;
 use crate::status::Status;
 
-/// The project's folder, named by `./leverbonnet` for what it starts.
-const PROJECT: &str = "LEVERBONNET_PROJECT";
+/// The project's folder, as `./leverbonnet` names it for what it starts; an
+/// installed program has none.
+pub fn project() -> Option<PathBuf> {
+    env::var_os("LEVERBONNET_PROJECT").map(PathBuf::from)
+}
 
 /// Becomes the gate, and comes back only if it can't be started.
-pub fn become_it() -> Status {
+pub(crate) fn become_it() -> Status {
     // A verdict that nobody could read would be the answer of 20 minutes.
     if let Err(trouble) = standard::output() {
         return standard::unwritten(&trouble);
     }
-    match env::var_os(PROJECT) {
-        Some(project) => unstarted(&Path::new(&project).join(".ci/run")),
+    match project() {
+        Some(project) => unstarted(&project.join(".ci/run")),
         None => {
             standard::tell(
                 "the tests stand in the project's folder: run ./leverbonnet test there.",

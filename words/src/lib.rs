@@ -21,6 +21,7 @@ pub mod standard;
 use std::ffi::OsString;
 
 pub use crate::complaint::shown;
+pub use crate::gate::project;
 pub use crate::layout::{Layout, Stack};
 pub use crate::sheet::Source;
 pub use crate::status::Status;
