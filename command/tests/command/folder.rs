@@ -1,0 +1,63 @@
+//! Temporary folders, and the project's own.
+
+use std::env;
+use std::fs::{self, Permissions};
+use std::ops::Deref;
+use std::os::unix::fs::PermissionsExt;
+use std::path::{Path, PathBuf};
+use std::process;
+use std::sync::atomic::{AtomicUsize, Ordering};
+
+/// The project whose tests these are.
+pub fn project() -> &'static Path {
+    let package = Path::new(env!("CARGO_MANIFEST_DIR"));
+    package.parent().expect("the package lies in its project")
+}
+
+pub fn example(name: &str) -> PathBuf {
+    project().join("examples").join(name)
+}
+
+pub fn example_bytes(name: &str) -> Vec<u8> {
+    fs::read(example(name)).expect("the example is there")
+}
+
+/// A folder with a space in its name that everybody may read. It is removed
+/// when it is dropped.
+pub struct Folder(PathBuf);
+
+impl Folder {
+    pub fn new() -> Self {
+        static MADE: AtomicUsize = AtomicUsize::new(0);
+        let number = MADE.fetch_add(1, Ordering::Relaxed);
+        let name = format!("leverbonnet test {} {number}", process::id());
+        let path = env::temp_dir().join(name);
+        fs::create_dir(&path).expect("a temporary folder can be made");
+        fs::set_permissions(&path, Permissions::from_mode(0o755)).expect("it is ours");
+        Folder(path)
+    }
+
+    /// Writes a file that can be run.
+    pub fn put_script(&self, name: &str, text: &str) {
+        let path = self.0.join(name);
+        if let Some(above) = path.parent() {
+            fs::create_dir_all(above).expect("a folder can be made in ours");
+        }
+        fs::write(&path, format!("#!/bin/sh\n{text}\n")).expect("a file can be written in ours");
+        fs::set_permissions(&path, Permissions::from_mode(0o755)).expect("it is ours");
+    }
+}
+
+impl Deref for Folder {
+    type Target = Path;
+
+    fn deref(&self) -> &Path {
+        &self.0
+    }
+}
+
+impl Drop for Folder {
+    fn drop(&mut self) {
+        fs::remove_dir_all(&self.0).expect("a temporary folder can be removed");
+    }
+}

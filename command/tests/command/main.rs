@@ -1,0 +1,13 @@
+//! The command as its user meets it: the program itself, the program installed,
+//! and `./leverbonnet` of a copied project.
+
+mod drawings;
+mod folder;
+mod inputs;
+mod installed;
+mod layouts;
+mod outputs;
+mod project;
+mod run;
+mod sheets;
+mod words;
