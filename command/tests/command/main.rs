@@ -1,6 +1,7 @@
 //! The command as its user meets it: the program itself, the program installed,
 //! and `./leverbonnet` of a copied project.
 
+mod copy;
 mod drawings;
 mod folder;
 mod inputs;
@@ -10,4 +11,5 @@ mod outputs;
 mod project;
 mod run;
 mod sheets;
+mod user;
 mod words;

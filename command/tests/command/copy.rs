@@ -1,0 +1,139 @@
+//! Copies of the project, and what stands in for the tools that it starts.
+
+use std::env;
+use std::ffi::OsString;
+use std::fs;
+use std::ops::Deref;
+use std::os::unix::fs::symlink;
+use std::path::{Path, PathBuf};
+use std::process::Command;
+
+use crate::folder::{project, Folder};
+use crate::run::program;
+
+/// A copy of the project's sources, with their times. Nothing is built in it.
+pub struct Copy(Folder);
+
+impl Copy {
+    pub fn new() -> Self {
+        let folder = Folder::new();
+        let files = fs::read_dir(project()).expect("the project can be listed");
+        let sources = files
+            .map(|file| file.expect("the project can be listed"))
+            .filter(|file| file.file_name() != ".git" && file.file_name() != "target")
+            .map(|file| file.path());
+        run(Command::new("cp").arg("-a").args(sources).arg(&*folder));
+        Copy(folder)
+    }
+
+    /// `./leverbonnet` of the copy with these words, called from elsewhere.
+    pub fn call(&self, words: &[&str]) -> Command {
+        let mut command = program(self.join("leverbonnet"));
+        command.args(words).current_dir("/");
+        for variable in ["LEVERBONNET_CALLS", "LEVERBONNET_LIB_DIR", "RUSTC"] {
+            command.env_remove(variable);
+        }
+        command
+    }
+
+    /// Gives a file the present time.
+    pub fn touch(&self, name: &str) {
+        run(Command::new("touch").arg(self.join(name)));
+    }
+
+    /// Puts a built file of the project into the copy.
+    pub fn put(&self, from: &Path, name: &str) {
+        let to = self.join(name);
+        fs::create_dir_all(to.parent().expect("it lies in the copy")).expect("it is ours");
+        fs::copy(from, to).expect("it is built, and the copy is ours");
+    }
+
+    /// Writes a file of the copy.
+    pub fn write(&self, name: &str, text: &str) {
+        let path = self.join(name);
+        fs::create_dir_all(path.parent().expect("it lies in the copy")).expect("it is ours");
+        fs::write(path, text).expect("it is ours");
+    }
+
+    pub fn read(&self, name: &str) -> String {
+        fs::read_to_string(self.join(name)).unwrap_or_default()
+    }
+
+    pub fn remove(&self, name: &str) {
+        fs::remove_file(self.join(name)).expect("it is there, and ours");
+    }
+}
+
+impl Deref for Copy {
+    type Target = Path;
+
+    fn deref(&self) -> &Path {
+        &self.0
+    }
+}
+
+fn run(command: &mut Command) {
+    let status = command.status().expect("it can be started");
+    assert!(status.success(), "{command:?}");
+}
+
+/// Programs that are found before those of the PATH.
+pub struct StandIns(Folder);
+
+impl StandIns {
+    pub fn new() -> Self {
+        StandIns(Folder::new())
+    }
+
+    /// A stand-in that writes down its words before it does what the script
+    /// says. In the script $stand_ins is this folder, and $others the PATH.
+    pub fn put(&self, name: &str, script: &str) {
+        let line = r#"stand_ins=$(dirname -- "$0"); echo "${0##*/} $*" >>"$stand_ins/started""#;
+        self.0.put_script(name, &format!("{line}\n{script}"));
+    }
+
+    /// What was started, a line each, since this was last asked.
+    pub fn started(&self) -> Vec<String> {
+        let path = self.0.join("started");
+        let text = fs::read_to_string(&path).unwrap_or_default();
+        let _ = fs::remove_file(path);
+        text.lines().map(String::from).collect()
+    }
+
+    /// Has the command find these first.
+    pub fn before<'a>(&self, command: &'a mut Command) -> &'a mut Command {
+        let mut path = OsString::from(&**self);
+        path.push(":");
+        path.push(others());
+        command.env("PATH", path).env("others", others())
+    }
+}
+
+impl Deref for StandIns {
+    type Target = Path;
+
+    fn deref(&self) -> &Path {
+        &self.0
+    }
+}
+
+fn others() -> OsString {
+    env::var_os("PATH").expect("there is a PATH")
+}
+
+/// A folder with all programs of the PATH but these.
+pub fn path_without(missing: &[&str]) -> Folder {
+    let folder = Folder::new();
+    for place in env::split_paths(&others()) {
+        let files = fs::read_dir(place).into_iter().flatten().flatten();
+        let programs: Vec<PathBuf> = files.map(|file| file.path()).collect();
+        for program in programs {
+            let name = program.file_name().expect("a file has a name");
+            if missing.iter().all(|missing| name != *missing) {
+                // The first of a name is the one that is found.
+                let _ = symlink(&program, folder.join(name));
+            }
+        }
+    }
+    folder
+}
