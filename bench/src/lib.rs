@@ -1,6 +1,6 @@
-//! Measures the proved library's `reduce` against the independent program's, in
-//! one run, on the same job and the same lent buffers, taking turns. The figure
-//! is a ratio, proved over independent, with its spread over the batches.
+//! Measures the proved library's `reduce` and `sheet_text` against the independent
+//! program's, in one run, on the same job and the same lent buffers, taking turns.
+//! The figure is a ratio, proved over independent, with its spread over the batches.
 //!
 //! The proved library's archive is for x86-64, and so is all of this.
 
@@ -11,7 +11,7 @@ mod measure;
 
 use independent::samples;
 
-use crate::measure::{measured, Subject};
+use crate::measure::{measured, Call, Subject};
 
 pub fn print_table() {
     println!("Each batch times both sides in turn, on the same job and outputs; the");
@@ -34,31 +34,24 @@ fn subjects() -> Vec<Subject> {
     let mut left_over = longest.clone();
     left_over.push(0);
 
+    let reduce = |name, job, run| Subject {
+        name,
+        job,
+        call: Call::Reduce { run },
+    };
+    let text = |name, job| Subject {
+        name,
+        job,
+        call: Call::SheetText,
+    };
+    let worked = samples::worked().bytes();
     vec![
-        Subject {
-            name: "worked job",
-            job: samples::worked().bytes(),
-            run: 7,
-        },
-        Subject {
-            name: "longest job, first run",
-            job: longest.clone(),
-            run: first,
-        },
-        Subject {
-            name: "longest job, last run",
-            job: longest,
-            run: last,
-        },
-        Subject {
-            name: "refused early: wrong mark",
-            job: bad_mark,
-            run: first,
-        },
-        Subject {
-            name: "refused at its end: a byte left over",
-            job: left_over,
-            run: first,
-        },
+        reduce("worked job", worked.clone(), 7),
+        reduce("longest job, first run", longest.clone(), first),
+        reduce("longest job, last run", longest.clone(), last),
+        reduce("refused early: wrong mark", bad_mark, first),
+        reduce("refused at its end: a byte left over", left_over, first),
+        text("text of the worked job", worked),
+        text("text of the longest job", longest),
     ]
 }

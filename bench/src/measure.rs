@@ -4,6 +4,8 @@ use std::fmt;
 use std::hint::black_box;
 use std::time::{Duration, Instant};
 
+use leverbonnet::{linked, MOST_TEXT};
+
 const BATCHES: usize = 1_001;
 
 /// How long the independent side's part of a batch should last: short, so that
@@ -18,14 +20,33 @@ const FINDINGS_LENGTH: usize = 392;
 pub struct Subject {
     pub name: &'static str,
     pub job: Vec<u8>,
-    pub run: u16,
+    pub call: Call,
 }
 
-type Reduce = fn(&[u8], u16, &mut [u8], &mut [u8]) -> u64;
+pub enum Call {
+    Reduce { run: u16 },
+    SheetText,
+}
+
+struct Side {
+    reduce: fn(&[u8], u16, &mut [u8], &mut [u8]) -> u64,
+    sheet_text: fn(&[u8], &mut [u8]) -> u64,
+}
+
+const PROVED: Side = Side {
+    reduce: linked::reduce,
+    sheet_text: linked::sheet_text,
+};
+
+const INDEPENDENT: Side = Side {
+    reduce: independent::reduce,
+    sheet_text: independent::sheet_text,
+};
 
 struct Buffers {
     lines: [u8; LINES_LENGTH],
     findings: [u8; FINDINGS_LENGTH],
+    text: [u8; MOST_TEXT],
 }
 
 /// A row of the table.
@@ -40,10 +61,11 @@ pub fn measured(subject: &Subject) -> Measured {
     let mut buffers = Buffers {
         lines: [0; LINES_LENGTH],
         findings: [0; FINDINGS_LENGTH],
+        text: [0; MOST_TEXT],
     };
     assert_eq!(
-        called(leverbonnet::linked::reduce, subject, &mut buffers),
-        called(independent::reduce, subject, &mut buffers),
+        called(&PROVED, subject, &mut buffers),
+        called(&INDEPENDENT, subject, &mut buffers),
         "the two sides answer alike"
     );
     let calls = calls_per_batch(subject, &mut buffers);
@@ -51,18 +73,13 @@ pub fn measured(subject: &Subject) -> Measured {
     let mut independent = Vec::with_capacity(BATCHES);
     for batch in 0..BATCHES {
         let mut time_proved = |buffers: &mut Buffers| {
-            proved.push(nanoseconds(
-                leverbonnet::linked::reduce,
-                subject,
-                buffers,
-                calls,
-            ));
+            proved.push(nanoseconds(&PROVED, subject, buffers, calls));
         };
         // Who goes first changes from batch to batch.
         if batch % 2 == 0 {
             time_proved(&mut buffers);
         }
-        let taken = nanoseconds(independent::reduce, subject, &mut buffers, calls);
+        let taken = nanoseconds(&INDEPENDENT, subject, &mut buffers, calls);
         independent.push(taken);
         if batch % 2 == 1 {
             time_proved(&mut buffers);
@@ -77,21 +94,25 @@ pub fn measured(subject: &Subject) -> Measured {
     }
 }
 
-fn called(reduce: Reduce, subject: &Subject, buffers: &mut Buffers) -> u64 {
-    black_box(reduce(
-        black_box(&subject.job),
-        black_box(subject.run),
-        &mut buffers.lines,
-        &mut buffers.findings,
-    ))
+fn called(side: &Side, subject: &Subject, buffers: &mut Buffers) -> u64 {
+    let job = black_box(&subject.job[..]);
+    black_box(match subject.call {
+        Call::Reduce { run } => (side.reduce)(
+            job,
+            black_box(run),
+            &mut buffers.lines,
+            &mut buffers.findings,
+        ),
+        Call::SheetText => (side.sheet_text)(job, &mut buffers.text),
+    })
 }
 
 /// Nanoseconds a call, over that many.
-fn nanoseconds(reduce: Reduce, subject: &Subject, buffers: &mut Buffers, calls: u32) -> f64 {
+fn nanoseconds(side: &Side, subject: &Subject, buffers: &mut Buffers, calls: u32) -> f64 {
     let started = Instant::now();
     for _ in 0..calls {
-        called(reduce, subject, buffers);
-        black_box(&buffers.lines);
+        called(side, subject, buffers);
+        black_box(&*buffers);
     }
     started.elapsed().as_nanos() as f64 / f64::from(calls)
 }
@@ -99,7 +120,7 @@ fn nanoseconds(reduce: Reduce, subject: &Subject, buffers: &mut Buffers, calls: 
 fn calls_per_batch(subject: &Subject, buffers: &mut Buffers) -> u32 {
     let mut calls = 1;
     loop {
-        let taken = nanoseconds(independent::reduce, subject, buffers, calls) * f64::from(calls);
+        let taken = nanoseconds(&INDEPENDENT, subject, buffers, calls) * f64::from(calls);
         if taken >= BATCH.as_nanos() as f64 {
             return calls;
         }

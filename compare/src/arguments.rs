@@ -2,7 +2,7 @@
 
 use std::env;
 
-use crate::command::CommandLine;
+use leverbonnet::pipe::CommandLine;
 
 pub struct Arguments {
     /// The program that makes the proved library's calls, if not linked.
@@ -44,12 +44,16 @@ impl Arguments {
 
 fn command_after(word: &str, text: Option<String>) -> Result<CommandLine, String> {
     let text = text.ok_or(format!("{word} needs a command after it, as one argument."))?;
-    CommandLine::split(&text)
+    split(word, &text)
 }
 
 fn command_in(variable: &str) -> Result<Option<CommandLine>, String> {
     match env::var(variable) {
-        Ok(text) => CommandLine::split(&text).map(Some),
+        Ok(text) => split(variable, &text).map(Some),
         Err(_) => Ok(None),
     }
+}
+
+fn split(given_with: &str, text: &str) -> Result<CommandLine, String> {
+    CommandLine::split(text).map_err(|trouble| format!("{given_with}: {trouble}."))
 }

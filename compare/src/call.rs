@@ -2,6 +2,8 @@
 
 use std::fmt;
 
+use leverbonnet::pipe::{Call, Reply, Request};
+
 /// What a reduced run's outputs take.
 pub const LINE_COUNT: usize = 20;
 pub const LINE_LENGTH: usize = 9;
@@ -15,38 +17,14 @@ const ACCEPTED: u32 = 65_536;
 /// them.
 const GUARD: usize = 32;
 
-#[derive(Clone, Copy, Debug, PartialEq, Eq)]
-pub enum Call {
-    RunCount,
-    RunNumber {
-        index: u16,
-    },
-    Reduce {
-        run: u16,
-        lines_len: usize,
-        findings_len: usize,
-    },
-    RoundLayout {
-        points: u16,
-        diameter: u16,
-        nozzle: u16,
-        out_len: usize,
-    },
-    RectLayout {
-        points: u16,
-        first: u16,
-        second: u16,
-        out_len: usize,
-    },
-}
-
-/// The five calls of a side that is part of this program.
+/// The six calls of a side that is part of this program.
 pub struct Side {
     pub reduce: fn(&[u8], u16, &mut [u8], &mut [u8]) -> u64,
     pub run_count: fn(&[u8]) -> u64,
     pub run_number: fn(&[u8], u16) -> u64,
     pub round_layout: fn(u16, u16, u16, &mut [u8]) -> u64,
     pub rect_layout: fn(u16, u16, u16, &mut [u8]) -> u64,
+    pub sheet_text: fn(&[u8], &mut [u8]) -> u64,
 }
 
 /// An answer, and every lent buffer with its guards as the call left it.
@@ -136,11 +114,18 @@ impl Fill {
     }
 }
 
-impl Call {
+/// A call, and what its outputs hold before it.
+#[derive(Clone, Copy, Debug)]
+pub struct Trial {
+    pub call: Call,
+    pub fill: Fill,
+}
+
+impl Trial {
     /// Makes the call on a side.
-    pub fn made(self, side: &Side, job: &[u8], fill: Fill) -> Outcome {
-        let mut lent = self.lent(fill);
-        let answer = match (self, &mut lent[..]) {
+    pub fn made(&self, side: &Side, job: &[u8]) -> Outcome {
+        let mut lent = self.lent();
+        let answer = match (self.call, &mut lent[..]) {
             (Call::RunCount, []) => (side.run_count)(job),
             (Call::RunNumber { index }, []) => (side.run_number)(job, index),
             (Call::Reduce { run, .. }, [lines, findings]) => {
@@ -164,41 +149,35 @@ impl Call {
                 },
                 [out],
             ) => (side.rect_layout)(points, first, second, out.middle()),
+            (Call::SheetText { .. }, [out]) => (side.sheet_text)(job, out.middle()),
             _ => unreachable!("each call is lent its own outputs"),
         };
         Outcome { answer, lent }
     }
 
-    /// What a call made elsewhere came to: its answer, and its outputs one after
-    /// the other.
-    pub fn told(self, answer: u64, outputs: &[u8], fill: Fill) -> Outcome {
-        let mut lent = self.lent(fill);
-        let mut rest = outputs;
-        for output in &mut lent {
-            let (bytes, more) = rest.split_at(output.length);
+    /// The call to be made elsewhere.
+    pub fn request(&self) -> Request {
+        Request {
+            call: self.call,
+            fill: self.fill.byte(0),
+        }
+    }
+
+    /// What the call made elsewhere came to.
+    pub fn told(&self, reply: Reply) -> Outcome {
+        let mut lent = self.lent();
+        for (output, bytes) in lent.iter_mut().zip(&reply.outputs) {
             output.middle().copy_from_slice(bytes);
-            rest = more;
         }
-        assert!(rest.is_empty(), "the outputs are as long as they were lent");
-        Outcome { answer, lent }
-    }
-
-    /// The length of each output that is lent.
-    pub fn output_lengths(self) -> Vec<usize> {
-        match self {
-            Call::RunCount | Call::RunNumber { .. } => vec![],
-            Call::Reduce {
-                lines_len,
-                findings_len,
-                ..
-            } => vec![lines_len, findings_len],
-            Call::RoundLayout { out_len, .. } | Call::RectLayout { out_len, .. } => vec![out_len],
+        Outcome {
+            answer: reply.answer,
+            lent,
         }
     }
 
-    fn lent(self, fill: Fill) -> Vec<Lent> {
-        let lengths = self.output_lengths().into_iter();
-        lengths.map(|length| Lent::new(length, fill)).collect()
+    fn lent(&self) -> Vec<Lent> {
+        let lengths = self.call.output_lengths().into_iter();
+        lengths.map(|length| Lent::new(length, self.fill)).collect()
     }
 }
 

@@ -4,15 +4,19 @@
 use std::io::{self, Write};
 use std::process::Stdio;
 
-use crate::agreement::{agreed, Difference};
-use crate::call::{Call, FINDING_LENGTH, LINES_LENGTH};
-use crate::command::CommandLine;
+use leverbonnet::pipe::{Call, CommandLine};
+
+use crate::agreement::{agreed, agreed_as_expected, Difference};
+use crate::call::{FINDING_LENGTH, LINES_LENGTH};
+use crate::case::Expected;
 use crate::proved::Proved;
 use crate::tally::Tally;
 
 /// Room for the lines and findings of any run, and then some.
 const ROOMY_LINES: usize = LINES_LENGTH + 11;
 const ROOMY_FINDINGS: usize = FINDING_LENGTH * 110;
+
+const TEXT_TO_SPARE: usize = 11;
 
 /// Compares every call on the job. Answers the number of its refusal, 0 if it
 /// is read.
@@ -48,7 +52,33 @@ pub fn library(proved: &Proved, job: &[u8], tally: &mut Tally) -> Result<u32, Di
     for outcome in agreed(&others)? {
         tally.count(&outcome);
     }
+    let texts = match counted.refusal() {
+        0 => texts_about_need(independent::sheet(job).len()),
+        number => texts_refused(number),
+    };
+    for outcome in agreed_as_expected(proved, &texts, job)? {
+        tally.count_text(&outcome);
+    }
     Ok(counted.refusal())
+}
+
+/// The text of that length with room to spare, in an output that just serves, in
+/// one a byte too short, and in none.
+fn texts_about_need(needed: usize) -> Vec<(Call, Expected)> {
+    let text = |out_len, expected| (Call::SheetText { out_len }, expected);
+    vec![
+        text(needed + TEXT_TO_SPARE, Expected::Read),
+        text(needed, Expected::Read),
+        text(needed - 1, Expected::Refused(9)),
+        text(0, Expected::Refused(9)),
+    ]
+}
+
+/// A job that is refused with that number has no text to need any length.
+fn texts_refused(number: u32) -> Vec<(Call, Expected)> {
+    [TEXT_TO_SPARE, 0]
+        .map(|out_len| (Call::SheetText { out_len }, Expected::Refused(number)))
+        .to_vec()
 }
 
 fn reduce(run: u16, lines_len: usize, findings_len: usize) -> Call {
@@ -107,6 +137,6 @@ fn printed_by(program: &CommandLine, job: &[u8]) -> io::Result<Vec<u8>> {
     }
     match output.status.code() {
         Some(_) => Ok(output.stdout),
-        None => Err(io::Error::other("it was killed")),
+        None => Err(io::Error::new(io::ErrorKind::Other, "it was killed")),
     }
 }

@@ -8,7 +8,7 @@
 //!                       set LEVERBONNET_CALLS); without it the library is linked,
 //!                       which can be done on x86-64
 //!
-//! A command is one argument with its words apart by spaces, such as
+//! A command is one argument with its words one a line, such as
 //! `scripts/run-program --print` prints.
 
 #![forbid(unsafe_code)]
@@ -19,7 +19,6 @@ mod call;
 mod case;
 mod cases;
 mod check;
-mod command;
 mod extent;
 mod fields;
 mod invent;
@@ -33,8 +32,9 @@ mod tally;
 
 use std::process::ExitCode;
 
+use leverbonnet::pipe::CommandLine;
+
 use crate::arguments::Arguments;
-use crate::command::CommandLine;
 use crate::proved::Proved;
 use crate::report::Failure;
 use crate::runner::Section;
@@ -95,6 +95,7 @@ fn sections(proved: &Proved, sheet: Option<&CommandLine>) -> Result<Vec<String>,
 
     let longest = cases::longest::cases(extent.longest_jobs);
     all.add(&Section::new("longest jobs").library(proved, longest)?);
+    all.add(&Section::new("large files").library(proved, cases::large::cases().into_iter())?);
     all.add(&Section::new("output lengths").outputs(proved, cases::outputs::cases())?);
     all.add(&Section::new("layouts").layouts(proved, cases::layouts::calls(extent))?);
     println!("all refusals: {}", all.refusals_text());

@@ -1,26 +1,29 @@
 //! The proved library, reached in one of two ways.
 
 mod linked;
-mod piped;
-mod request;
 
-use crate::call::{Call, Fill, Outcome, Side};
-use crate::command::CommandLine;
+use std::cell::RefCell;
+
+use leverbonnet::pipe::{CommandLine, Pipe, Request};
+
+use crate::call::{Fill, Outcome, Side, Trial};
 use crate::extent::{Extent, FULL, LIGHT};
-use crate::proved::piped::Piped;
 
 pub enum Proved {
     /// Part of this program.
     Linked(Side),
     /// A program that makes the calls it is asked for, over pipes.
-    Piped(Piped),
+    Piped(RefCell<Pipe>),
 }
 
 impl Proved {
     /// By that command, or else linked where that can be.
     pub fn reached(calls: Option<CommandLine>) -> Result<Self, String> {
         match (calls, linked::side()) {
-            (Some(command), _) => Piped::started(command).map(Proved::Piped),
+            (Some(command), _) => {
+                let pipe = Pipe::started(command).map_err(|trouble| format!("{trouble}."))?;
+                Ok(Proved::Piped(RefCell::new(pipe)))
+            }
             (None, Some(side)) => Ok(Proved::Linked(side)),
             (None, None) => Err(
                 "The proved library cannot be reached: its archive is for x86-64 only, and \
@@ -46,15 +49,18 @@ impl Proved {
         }
     }
 
-    /// What each call came to. A call that did not come back is told in words,
+    /// What each trial came to. A call that did not come back is told in words,
     /// and is the last one told.
-    pub fn made(&self, calls: &[(Call, Fill)], job: &[u8]) -> Vec<Result<Outcome, String>> {
+    pub fn made(&self, trials: &[Trial], job: &[u8]) -> Vec<Result<Outcome, String>> {
         match self {
-            Proved::Linked(side) => {
-                let made = |&(call, fill): &(Call, Fill)| Ok(call.made(side, job, fill));
-                calls.iter().map(made).collect()
+            Proved::Linked(side) => trials.iter().map(|one| Ok(one.made(side, job))).collect(),
+            Proved::Piped(pipe) => {
+                let requests: Vec<Request> = trials.iter().map(Trial::request).collect();
+                let replies = pipe.borrow_mut().replies(&requests, job);
+                let told = replies.into_iter().zip(trials);
+                told.map(|(reply, one)| reply.map(|reply| one.told(reply)))
+                    .collect()
             }
-            Proved::Piped(piped) => piped.made(calls, job),
         }
     }
 
@@ -62,7 +68,10 @@ impl Proved {
     pub fn ended(self) -> Result<(), String> {
         match self {
             Proved::Linked(_) => Ok(()),
-            Proved::Piped(piped) => piped.ended(),
+            Proved::Piped(pipe) => {
+                let ended = pipe.into_inner().ended();
+                ended.map_err(|trouble| format!("{trouble}."))
+            }
         }
     }
 }

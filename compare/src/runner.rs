@@ -3,12 +3,12 @@
 
 use std::time::Instant;
 
-use crate::agreement::{agreed, Difference};
-use crate::call::Call;
-use crate::case::{Case, Expected};
+use leverbonnet::pipe::{Call, CommandLine};
+
+use crate::agreement::{agreed, agreed_as_expected, Difference};
+use crate::case::Case;
 use crate::cases::outputs::Outputs;
 use crate::check;
-use crate::command::CommandLine;
 use crate::proved::Proved;
 use crate::report::Failure;
 use crate::shrink::smallest;
@@ -43,7 +43,7 @@ impl Section {
             let refusal = check::library(proved, &case.subject.bytes(), &mut self.tally)
                 .map_err(|difference| shrunk(&case, difference, &compared))?;
             if !case.expected.admits(refusal) {
-                return Err(unexpected(&case, "reading", case.expected, refusal));
+                return Err(unexpected(&case, refusal));
             }
         }
         Ok(self.done())
@@ -77,15 +77,13 @@ impl Section {
             for some in outputs.calls().chunks(TOGETHER) {
                 let calls: Vec<Call> = some.iter().map(|&(call, _)| call).collect();
                 let compared = |job: &[u8]| agreed(proved, &calls, job).map(drop);
-                let outcomes = agreed(proved, &calls, &job)
+                let outcomes = agreed_as_expected(proved, some, &job)
                     .map_err(|difference| shrunk(&outputs.case, difference, &compared))?;
-                for (&(call, expected), outcome) in some.iter().zip(outcomes) {
-                    if !expected.admits(outcome.refusal()) {
-                        let what = format!("{call:?}");
-                        let refusal = outcome.refusal();
-                        return Err(unexpected(&outputs.case, &what, expected, refusal));
+                for (call, outcome) in calls.iter().zip(outcomes) {
+                    match call {
+                        Call::SheetText { .. } => self.tally.count_text(&outcome),
+                        _ => self.tally.count(&outcome),
                     }
-                    self.tally.count(&outcome);
                 }
             }
             self.tally.jobs += 1;
@@ -116,9 +114,11 @@ impl Section {
     }
 
     fn done(self) -> Tally {
-        let Tally { jobs, calls, .. } = self.tally;
+        let Tally {
+            jobs, calls, texts, ..
+        } = self.tally;
         println!(
-            "{}: {jobs} jobs, {calls} calls agree; refusals {} ({})",
+            "{}: {jobs} jobs, {calls} calls agree, {texts} of them texts; refusals {} ({})",
             self.name,
             self.tally.refusals_text(),
             self.taken()
@@ -145,15 +145,11 @@ fn shrunk(case: &Case, difference: Difference, compared: Compared) -> Failure {
     }
 }
 
-/// Both sides agree, but not on what the case was made for.
-fn unexpected(case: &Case, what: &str, expected: Expected, refusal: u32) -> Failure {
+/// Both sides agree on the reading, but not on what the case was made for.
+fn unexpected(case: &Case, refusal: u32) -> Failure {
     Failure {
         case: case.name.clone(),
         job: Some(case.subject.bytes()),
-        difference: Difference {
-            what: format!("{what}, where {expected:?} was to come"),
-            proved: format!("refusal {refusal} (0 is success)"),
-            independent: "the same".into(),
-        },
+        difference: Difference::unexpected("reading", case.expected, refusal),
     }
 }

@@ -33,6 +33,8 @@ const ISOKINETIC_EDGES: [i64; 4] = [8_999, 9_000, 11_000, 11_001];
 pub struct Tally {
     pub jobs: u64,
     pub calls: u64,
+    /// Texts written, of jobs that are read.
+    pub texts: u64,
     accepted: u64,
     void: u64,
     rules: [u64; RULES + 1],
@@ -46,6 +48,11 @@ impl Tally {
     pub fn count(&mut self, outcome: &Outcome) {
         self.calls += 1;
         self.refusals[outcome.refusal() as usize] += 1;
+    }
+
+    pub fn count_text(&mut self, outcome: &Outcome) {
+        self.count(outcome);
+        self.texts += u64::from(outcome.refusal() == 0);
     }
 
     /// Counts a successful reduce's verdict, findings and absent lines too.
@@ -91,6 +98,7 @@ impl Tally {
     pub fn add(&mut self, other: &Tally) {
         self.jobs += other.jobs;
         self.calls += other.calls;
+        self.texts += other.texts;
         self.accepted += other.accepted;
         self.void += other.void;
         add_each(&mut self.rules, &other.rules);
@@ -111,6 +119,7 @@ impl Tally {
         };
         need(self.accepted, "an accepted run".into());
         need(self.void, "a void run".into());
+        need(self.texts, "a text".into());
         for rule in (1..=RULES).filter(|&rule| rule != CANNOT_OCCUR) {
             need(self.rules[rule], format!("rule {rule}"));
         }
@@ -188,5 +197,21 @@ impl fmt::Display for Tally {
             write!(f, " {edge}: {count} ")?;
         }
         Ok(())
+    }
+}
+
+#[cfg(test)]
+mod tests {
+    use super::*;
+
+    #[test]
+    fn a_comparison_without_a_text_has_not_reached_one() {
+        let unreached = Tally::default().unreached_by_reading();
+        assert!(unreached.contains(&"a text".into()));
+        let tally = Tally {
+            texts: 1,
+            ..Tally::default()
+        };
+        assert!(!tally.unreached_by_reading().contains(&"a text".into()));
     }
 }

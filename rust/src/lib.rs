@@ -1,7 +1,7 @@
 //! Safe Rust calls on the proved library, by one of two ways:
 //!
-//! - `linked`: the library's archive is part of the program. The
-//!   archive is for x86-64, and so is the module `linked`.
+//! - `linked`: the library's archive is part of the program. The archive is for
+//!   x86-64, and the module `linked` is there only where it can be linked.
 //! - [`pipe`]: the program `calls` makes the same proved calls and is asked over a
 //!   pipe. This can be done on every processor, under an emulator where it must be.
 //!
@@ -14,8 +14,8 @@
 //! take the word apart. They are linked where that can be; elsewhere, and with
 //! the feature `piped` on x86-64 too, they go over the pipe.
 //!
-//! Every call may be made from any thread. Over the pipe they wait for each other,
-//! since a process has one pipe for all of them.
+//! Every call may be made from any thread, and from several at once. Over the pipe
+//! they wait for each other, since a process has one pipe for all of them.
 
 mod error;
 #[cfg(all(target_arch = "x86_64", not(feature = "piped")))]

@@ -2,9 +2,9 @@
 //!
 //! The six functions here ask one program for the whole process, whose command
 //! line is in the variable LEVERBONNET_CALLS, its words one a line. It is started
-//! at the first call, and again at the next call after it was lost. Each function
-//! answers the library's own word, as [the package](crate) says, or why no answer
-//! came; then no lent byte was changed.
+//! at the first call, and again at the next call after it was lost or [ended](end).
+//! Each function answers the library's own word, as [the package](crate) says, or
+//! why no answer came; then no lent byte was changed.
 //!
 //! A [`Pipe`] asks a program of its own, many calls at a time.
 
@@ -19,6 +19,7 @@ pub use call::Call;
 pub use client::Pipe;
 pub use command::CommandLine;
 pub use request::{Reply, Request};
+pub use shared::end;
 
 /// Works the run of that number into `lines` (20 of 9 bytes) and `findings` (4
 /// bytes each). Succeeds with the number of findings, plus 65,536 if accepted.

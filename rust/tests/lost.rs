@@ -12,12 +12,14 @@ use leverbonnet::{pipe, run_numbers, Error};
 
 const VARIABLE: &str = "LEVERBONNET_CALLS";
 
+/// Shell's words for the answer to a call that writes nothing: success with 1.
+const ANSWER_ONE: &str = r"printf '\1\0\0\0\0\0\0\0'";
+
 /// The pipe and the variable are the whole process's: one test at a time.
 fn alone() -> MutexGuard<'static, ()> {
     static ALONE: Mutex<()> = Mutex::new(());
     let guard = ALONE.lock().unwrap_or_else(PoisonError::into_inner);
-    env::set_var(VARIABLE, "false");
-    while pipe::run_count(&[]).is_ok() {}
+    pipe::end();
     guard
 }
 
@@ -83,11 +85,22 @@ fn a_program_that_dies_is_told_and_not_left_behind() {
 }
 
 #[test]
+fn a_program_that_is_ended_is_not_left_behind() {
+    let _alone = alone();
+    let before = children();
+    env::set_var(VARIABLE, format!("sh\n-c\n{ANSWER_ONE}; cat >/dev/null"));
+    assert_eq!(pipe::run_count(&[]), Ok(1));
+    assert_eq!(children(), before + 1);
+    pipe::end();
+    assert_eq!(children(), before);
+}
+
+#[test]
 fn a_program_that_died_is_started_again_at_the_next_call() {
     let _alone = alone();
     let died = new_file("died once");
-    // It answers 1 once it has died.
-    let script = r#"[ -e "$0" ] && printf '\1\0\0\0\0\0\0\0' || : >"$0""#;
+    // It answers once it has died.
+    let script = format!(r#"if [ -e "$0" ]; then {ANSWER_ONE}; else : >"$0"; fi"#);
     env::set_var(VARIABLE, format!("sh\n-c\n{script}\n{}", died.display()));
     let (first, second) = (pipe::run_count(&[]), pipe::run_count(&[]));
     fs::remove_file(died).unwrap();

@@ -1,7 +1,8 @@
 //! Traverse layouts: every count of points with sizes about every limit, every
 //! diameter, and outputs of every length for the largest of each kind.
 
-use crate::call::Call;
+use leverbonnet::pipe::Call;
+
 use crate::extent::Extent;
 use crate::fields::RECTANGULAR_COUNTS;
 use crate::random::Random;
@@ -41,7 +42,7 @@ pub fn calls(extent: &Extent) -> impl Iterator<Item = Call> {
 }
 
 fn is_round_count(points: u16) -> bool {
-    (2..=24).contains(&points) && points.is_multiple_of(2)
+    (2..=24).contains(&points) && points % 2 == 0
 }
 
 fn round_limits(every_pairing: bool) -> impl Iterator<Item = Call> {

@@ -4,10 +4,15 @@
 use independent::job::{Job, Shape, WeighingKind};
 use independent::samples;
 
-use crate::call::{Call, FINDING_LENGTH, LINES_LENGTH};
+use leverbonnet::pipe::Call;
+
+use crate::call::{FINDING_LENGTH, LINES_LENGTH};
 use crate::case::{Case, Expected};
 
 const MOST_LINES: usize = LINES_LENGTH + 2;
+
+/// How far an output for a text is from its need, either way.
+const ABOUT_TEXT: usize = 40;
 
 /// A run and the number of its findings, to be reduced into many outputs.
 pub struct Outputs {
@@ -35,8 +40,14 @@ pub fn cases() -> Vec<Outputs> {
 }
 
 impl Outputs {
-    /// The calls, each refused with 9 exactly if either output is too short.
+    /// The calls, each refused with 9 exactly if an output is too short.
     pub fn calls(&self) -> Vec<(Call, Expected)> {
+        let mut calls = self.reduces();
+        calls.extend(self.texts());
+        calls
+    }
+
+    fn reduces(&self) -> Vec<(Call, Expected)> {
         let needed = FINDING_LENGTH * self.findings;
         let mut calls = Vec::new();
         for lines_len in (0..=MOST_LINES).filter(|&length| self.crossed || is_telling(length)) {
@@ -47,15 +58,23 @@ impl Outputs {
                     findings_len,
                 };
                 let too_short = lines_len < LINES_LENGTH || findings_len < needed;
-                let expected = if too_short {
-                    Expected::Refused(9)
-                } else {
-                    Expected::Read
-                };
-                calls.push((call, expected));
+                calls.push((call, refused_if(too_short)));
             }
         }
         calls
+    }
+
+    fn texts(&self) -> impl Iterator<Item = (Call, Expected)> {
+        let needed = independent::sheet(&self.case.subject.bytes()).len();
+        let lengths = needed - ABOUT_TEXT..=needed + ABOUT_TEXT;
+        lengths.map(move |out_len| (Call::SheetText { out_len }, refused_if(out_len < needed)))
+    }
+}
+
+fn refused_if(too_short: bool) -> Expected {
+    match too_short {
+        true => Expected::Refused(9),
+        false => Expected::Read,
     }
 }
 

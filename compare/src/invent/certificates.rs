@@ -9,7 +9,7 @@ const MOST_CERTIFICATES: usize = 64;
 
 /// Certificates for the runs' instruments, some missing and some beside the
 /// point, in no order.
-pub fn certificates(random: &mut Random, runs: &[Run], style: Style) -> Vec<Certificate> {
+pub(super) fn certificates(random: &mut Random, runs: &[Run], style: Style) -> Vec<Certificate> {
     let mut list = Vec::new();
     for run in runs {
         certify_meter(random, &mut list, run, style);

@@ -12,7 +12,7 @@ const MOST_SEGMENTS: usize = 16;
 const MOST_WEIGHINGS: usize = 8;
 const LONGEST_RUN: i64 = 36_000;
 
-pub fn run(random: &mut Random, number: u16, style: Style) -> Run {
+pub(super) fn run(random: &mut Random, number: u16, style: Style) -> Run {
     let calm = samples::worked().runs.remove(0);
     let mut run = Run {
         number,

@@ -4,12 +4,14 @@ use crate::call::Side;
 
 #[cfg(target_arch = "x86_64")]
 pub fn side() -> Option<Side> {
+    use leverbonnet::linked;
     Some(Side {
-        reduce: leverbonnet::linked::reduce,
-        run_count: leverbonnet::linked::run_count,
-        run_number: leverbonnet::linked::run_number,
-        round_layout: leverbonnet::linked::round_layout,
-        rect_layout: leverbonnet::linked::rect_layout,
+        reduce: linked::reduce,
+        run_count: linked::run_count,
+        run_number: linked::run_number,
+        round_layout: linked::round_layout,
+        rect_layout: linked::rect_layout,
+        sheet_text: linked::sheet_text,
     })
 }
 

@@ -11,6 +11,8 @@ use super::running::Running;
 /// good.
 const MOST_WAITING: usize = 16 * 1_024;
 
+/// A program of its own and the pipe to it. Whoever drops it waits for the
+/// program's end.
 pub struct Pipe {
     command: CommandLine,
     /// None after it was lost.
@@ -18,6 +20,7 @@ pub struct Pipe {
 }
 
 impl Pipe {
+    /// Starts the program; what it writes to standard error is seen on this one's.
     pub fn started(command: CommandLine) -> Result<Self, String> {
         let running = Some(Running::start(&command)?);
         Ok(Pipe { command, running })
@@ -69,12 +72,12 @@ impl Pipe {
 
     /// What to say of a program that stopped within a reply.
     fn lost(&self, mut running: Running, came: usize, length: usize) -> String {
+        let ended = match running.ended() {
+            Ok(status) => format!("ended with {status}"),
+            Err(trouble) => format!("was lost ({trouble})"),
+        };
         let command = &self.command;
-        let came = format!("{came} of {length} bytes came");
-        match running.ended() {
-            Ok(status) => format!("no answer: {command} ended with {status} on this call, {came}"),
-            Err(trouble) => format!("no answer: {command} was lost ({trouble}), {came}"),
-        }
+        format!("{command} {ended} before its reply was complete: {came} of {length} bytes came")
     }
 
     /// Makes one call, and writes into the outputs that are lent to it what the
@@ -108,7 +111,7 @@ impl Pipe {
         match running.ended() {
             Ok(status) if status.success() && more == 0 => Ok(()),
             Ok(status) => Err(format!(
-                "after the last call {command} wrote {more} more bytes and ended with {status}"
+                "{command} wrote {more} more bytes after the last call and ended with {status}"
             )),
             Err(trouble) => Err(format!("{command} was lost: {trouble}")),
         }

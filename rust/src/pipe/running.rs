@@ -18,7 +18,6 @@ pub struct Running {
 }
 
 impl Running {
-    /// Its standard error is this process's own.
     pub fn start(command: &CommandLine) -> Result<Self, String> {
         let mut child = command
             .command()

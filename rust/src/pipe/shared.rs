@@ -1,7 +1,7 @@
 //! The one pipe of the whole process.
 
 use std::env::{self, VarError};
-use std::sync::{Mutex, PoisonError};
+use std::sync::{Mutex, MutexGuard, PoisonError};
 
 use super::call::Call;
 use super::client::Pipe;
@@ -12,10 +12,15 @@ const VARIABLE: &str = "LEVERBONNET_CALLS";
 /// None before the first call, and after the program was lost.
 static SHARED: Mutex<Option<Pipe>> = Mutex::new(None);
 
-/// Makes the call, one at a time for all threads.
+/// Its use by one thread at a time. A thread that panicked while it asked had
+/// taken the pipe out, so none of them finds it halfway through a call.
+fn held() -> MutexGuard<'static, Option<Pipe>> {
+    SHARED.lock().unwrap_or_else(PoisonError::into_inner)
+}
+
+/// Makes the call.
 pub fn answer(call: Call, job: &[u8], outputs: [&mut [u8]; 2]) -> Result<u64, String> {
-    // A thread that panicked while it held the pipe had taken it out before.
-    let mut shared = SHARED.lock().unwrap_or_else(PoisonError::into_inner);
+    let mut shared = held();
     let mut pipe = match shared.take() {
         Some(pipe) => pipe,
         None => Pipe::started(named()?)?,
@@ -23,6 +28,12 @@ pub fn answer(call: Call, job: &[u8], outputs: [&mut [u8]; 2]) -> Result<u64, St
     let answer = pipe.answer(call, job, outputs)?;
     *shared = Some(pipe);
     Ok(answer)
+}
+
+/// Ends the program and waits for that, if it was started. It ends with this
+/// process by itself, but then as nobody's child, and somebody has to wait for it.
+pub fn end() {
+    drop(held().take());
 }
 
 fn named() -> Result<CommandLine, String> {
