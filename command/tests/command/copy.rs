@@ -41,6 +41,11 @@ impl Copy {
         run(Command::new("touch").arg(self.join(name)));
     }
 
+    /// Changes the modes of everything in the copy, as chmod is told to.
+    pub fn set_modes(&self, modes: &str) {
+        run(Command::new("chmod").arg("-R").arg(modes).arg(&**self));
+    }
+
     /// Puts a built file of the project into the copy.
     pub fn put(&self, from: &Path, name: &str) {
         let to = self.join(name);
@@ -90,6 +95,11 @@ impl StandIns {
     pub fn put(&self, name: &str, script: &str) {
         let line = r#"stand_ins=$(dirname -- "$0"); echo "${0##*/} $*" >>"$stand_ins/started""#;
         self.0.put_script(name, &format!("{line}\n{script}"));
+    }
+
+    /// A stand-in that writes nothing down.
+    pub fn put_quiet(&self, name: &str, script: &str) {
+        self.0.put_script(name, script);
     }
 
     /// What was started, a line each, since this was last asked.

@@ -1,6 +1,7 @@
 //! The command as its user meets it: the program itself, the program installed,
 //! and `./leverbonnet` of a copied project.
 
+mod building;
 mod copy;
 mod drawings;
 mod folder;

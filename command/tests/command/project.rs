@@ -11,7 +11,7 @@ use std::sync::{Mutex, MutexGuard, PoisonError};
 
 use crate::copy::{Copy, StandIns};
 use crate::folder::{example, example_bytes, project, Folder};
-use crate::run::{ended, started, Ended, Running};
+use crate::run::{ended, program, started, Ended, Running};
 use crate::user::held_back;
 
 /// The copy that these tests use in turn, because building one takes seconds.
@@ -72,7 +72,7 @@ fn put_library(copy: &Copy) {
 fn put_library(copy: &Copy) {
     const CALLS: &str = "target/bin/calls";
     copy.put(&project().join(CALLS), CALLS);
-    let mut command = crate::run::program(copy.join("scripts/run-program"));
+    let mut command = program(copy.join("scripts/run-program"));
     let printed = ended(command.args(["--print", "calls"]));
     assert_eq!(printed.status, 0, "{printed:?}");
     copy.write("target/program/calls", &printed.out);
@@ -120,21 +120,11 @@ fn an_unchanged_project_starts_neither_rt_nor_cargo() {
 #[test]
 fn another_user_calls_a_project_that_can_not_be_written() {
     let copy = built();
-    let set_modes = |mode: &str| {
-        let mut command = std::process::Command::new("chmod");
-        let status = command.args(["-R", mode]).arg(&**copy).status();
-        assert!(status.expect("chmod can be started").success());
-    };
-    set_modes("a-w");
-    let printed = ended(held_back(
-        copy.call(&["sheet"]).arg("-").stdin(worked_job()),
-    ));
-    set_modes("u+w");
+    let job = fs::File::open(example("worked.job")).expect("the example is there");
+    copy.set_modes("a-w");
+    let printed = ended(held_back(copy.call(&["sheet"]).stdin(job)));
+    copy.set_modes("u+w");
     assert_sheet(&printed);
-}
-
-fn worked_job() -> fs::File {
-    fs::File::open(example("worked.job")).expect("the example is there")
 }
 
 #[test]
@@ -169,20 +159,25 @@ fn a_missing_program_is_built_again() {
 
 #[test]
 fn a_changed_source_is_built() {
+    const SOURCE: &str = "command/src/trouble.rs";
     let copy = built();
-    let source = copy.read("words/Cargo.toml");
-    let changed = source.replacen("version = \"0.1.0\"", "version = \"0.1.77\"", 1);
-    let lock = copy.read("Cargo.lock");
-    let words = "name = \"words\"\nversion = ";
-    copy.write("words/Cargo.toml", &changed);
-    copy.write(
-        "Cargo.lock",
-        &lock.replace(&format!("{words}\"0.1.0\""), &format!("{words}\"0.1.77\"")),
-    );
-    let version = ended(&mut copy.call(&["--version"]));
-    copy.write("words/Cargo.toml", &source);
-    copy.write("Cargo.lock", &lock);
-    assert_eq!(version.out, "leverbonnet 0.1.77\n", "{version:?}");
+    let source = copy.read(SOURCE);
+    copy.write(SOURCE, &source.replace("REFUSED {} {}", "CHANGED {} {}"));
+    let printed = ended(copy.call(&["sheet"]).arg(example("refused.job")));
+    copy.write(SOURCE, &source);
+    assert_eq!(printed.out, "CHANGED 5 167\n", "{printed:?}");
+}
+
+#[test]
+fn a_source_that_can_not_be_compiled_is_told_with_its_log() {
+    const SOURCE: &str = "command/src/trouble.rs";
+    let copy = built();
+    let source = copy.read(SOURCE);
+    copy.write(SOURCE, "no Rust");
+    let failed = sheet(&copy);
+    copy.write(SOURCE, &source);
+    failed.assert_one_sentence(1, "target/made/leverbonnet.log says why.");
+    assert!(copy.read("target/made/leverbonnet.log").contains("no Rust"));
 }
 
 #[test]
@@ -192,10 +187,10 @@ fn it_is_found_behind_links() {
     symlink(copy.join("leverbonnet"), folder.join("far")).expect("it is ours");
     symlink("far", folder.join("near")).expect("it is ours");
     for link in ["far", "near"] {
-        let mut command = crate::run::program(folder.join(link));
+        let mut command = program(folder.join(link));
         assert_sheet(&ended(command.arg("sheet").arg(example("worked.job"))));
     }
-    let mut command = crate::run::program("near");
+    let mut command = program("near");
     let path = format!("{}:{}", folder.display(), env::var("PATH").unwrap());
     command.env("PATH", path).arg("sheet");
     assert_sheet(&ended(command.arg(example("worked.job"))));
@@ -207,7 +202,7 @@ fn a_path_for_cd_leaves_nothing_behind() {
     copy.touch("command/src/main.rs");
     let above = copy.parent().expect("it lies in a folder");
     let name = copy.file_name().expect("it has a name");
-    let mut command = crate::run::program(PathBuf::from(name).join("leverbonnet"));
+    let mut command = program(PathBuf::from(name).join("leverbonnet"));
     let elsewhere = Folder::new();
     fs::create_dir(elsewhere.join(name)).expect("it is ours");
     command.current_dir(above).env("CDPATH", &*elsewhere);
