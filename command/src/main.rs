@@ -16,7 +16,12 @@ use words::{Judged, Status, Work};
 fn main() -> ExitCode {
     match words::judged(env::args_os().skip(1)) {
         Judged::Answered(status) => status.into(),
-        Judged::Work(work) => done(work).into(),
+        Judged::Work(work) => {
+            let status = done(work);
+            // Where the calls go over a pipe, the program that makes them ends first.
+            leverbonnet::pipe::end();
+            status.into()
+        }
     }
 }
 

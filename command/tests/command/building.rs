@@ -6,7 +6,7 @@ use std::process::{Command, Stdio};
 use std::thread;
 use std::time::Duration;
 
-use crate::copy::{path_without, Copy, StandIns};
+use crate::copy::{path_of, Copy, StandIns};
 use crate::run::{ended, ended_with_input, program, started, Ended};
 use crate::user::held_back;
 
@@ -41,6 +41,12 @@ cp "$stand_ins/ready/$program" target/cargo/release/"#;
 const PROGRAM: &str = r#"echo "program $*"; cat"#;
 
 const FOR_THE_PROGRAM: &str = "exit 100";
+
+/// All that is started before anything is built.
+const NEEDED: [&str; 11] = [
+    "timeout", "readlink", "dirname", "uname", "find", "mkdir", "flock", "cargo", "rustc", "cc",
+    "rt",
+];
 
 struct Workshop {
     copy: Copy,
@@ -101,8 +107,9 @@ impl Workshop {
         names
     }
 
-    fn without(&self, tool: &str) -> Ended {
-        let path = path_without(&[tool]);
+    /// A call that finds all that it needs but this.
+    fn without(&self, missing: &str) -> Ended {
+        let path = path_of(NEEDED.into_iter().filter(|tool| *tool != missing));
         ended(self.copy.call(&["sheet"]).env("PATH", &*path))
     }
 }
@@ -125,8 +132,9 @@ fn every_crate_is_told_as_it_is_proved() {
     let workshop = Workshop::new();
     let crates = crates_up_to(&workshop.copy, "leverbonnet");
     let total = crates.len();
-    let mut expected =
-        vec!["leverbonnet: proves what is not proved yet, which takes some minutes.".to_string()];
+    let mut expected = vec![
+        "leverbonnet: proves what is not proved yet, which may take some minutes.".to_string(),
+    ];
     for (index, name) in crates[..total - 1].iter().enumerate() {
         expected.push(format!(
             "leverbonnet: proved {} of {total}: {name} (1 s)",

@@ -5,24 +5,29 @@ use std::ffi::OsString;
 use std::fs;
 use std::ops::Deref;
 use std::os::unix::fs::symlink;
-use std::path::{Path, PathBuf};
+use std::path::Path;
 use std::process::Command;
 
 use crate::folder::{project, Folder};
 use crate::run::program;
 
-/// A copy of the project's sources, with their times. Nothing is built in it.
+/// A copy of the project's sources, with their times. Nothing is built in it,
+/// and the proofs stay behind, because nothing is proved in it.
 pub struct Copy(Folder);
 
 impl Copy {
     pub fn new() -> Self {
         let folder = Folder::new();
-        let files = fs::read_dir(project()).expect("the project can be listed");
-        let sources = files
-            .map(|file| file.expect("the project can be listed"))
-            .filter(|file| file.file_name() != ".git" && file.file_name() != "target")
-            .map(|file| file.path());
-        run(Command::new("cp").arg("-a").args(sources).arg(&*folder));
+        let left = [".git", "target", "crates"];
+        let sources = names(Path::new("."))
+            .into_iter()
+            .filter(|name| left.iter().all(|left| name != left));
+        let crates = names(Path::new("crates"));
+        let crates = crates.iter().map(|name| Path::new("crates").join(name));
+        let mut command = Command::new("cp");
+        command.args(["-a", "--parents"]).args(sources);
+        command.args(crates.map(|folder| folder.join("src")));
+        run(command.arg(&*folder).current_dir(project()));
         Copy(folder)
     }
 
@@ -77,6 +82,14 @@ impl Deref for Copy {
     }
 }
 
+/// The names in a folder of the project.
+fn names(folder: &Path) -> Vec<OsString> {
+    let files = fs::read_dir(project().join(folder)).expect("the project can be listed");
+    files
+        .map(|file| file.expect("the project can be listed").file_name())
+        .collect()
+}
+
 fn run(command: &mut Command) {
     let status = command.status().expect("it can be started");
     assert!(status.success(), "{command:?}");
@@ -127,22 +140,19 @@ impl Deref for StandIns {
     }
 }
 
+/// The PATH of these tests.
 fn others() -> OsString {
     env::var_os("PATH").expect("there is a PATH")
 }
 
-/// A folder with all programs of the PATH but these.
-pub fn path_without(missing: &[&str]) -> Folder {
+/// A folder with these programs of the PATH, as far as there are any.
+pub fn path_of<'a>(programs: impl Iterator<Item = &'a str>) -> Folder {
     let folder = Folder::new();
-    for place in env::split_paths(&others()) {
-        let files = fs::read_dir(place).into_iter().flatten().flatten();
-        let programs: Vec<PathBuf> = files.map(|file| file.path()).collect();
-        for program in programs {
-            let name = program.file_name().expect("a file has a name");
-            if missing.iter().all(|missing| name != *missing) {
-                // The first of a name is the one that is found.
-                let _ = symlink(&program, folder.join(name));
-            }
+    let others = others();
+    for name in programs {
+        let mut places = env::split_paths(&others).map(|place| place.join(name));
+        if let Some(program) = places.find(|program| program.exists()) {
+            symlink(program, folder.join(name)).expect("it is ours");
         }
     }
     folder

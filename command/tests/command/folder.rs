@@ -7,6 +7,7 @@ use std::os::unix::fs::PermissionsExt;
 use std::path::{Path, PathBuf};
 use std::process;
 use std::sync::atomic::{AtomicUsize, Ordering};
+use std::thread;
 
 /// The project whose tests these are.
 pub fn project() -> &'static Path {
@@ -58,6 +59,8 @@ impl Deref for Folder {
 
 impl Drop for Folder {
     fn drop(&mut self) {
-        fs::remove_dir_all(&self.0).expect("a temporary folder can be removed");
+        let removed = fs::remove_dir_all(&self.0);
+        // A test that fails may leave modes behind that keep it from being removed.
+        assert!(removed.is_ok() || thread::panicking(), "{removed:?}");
     }
 }

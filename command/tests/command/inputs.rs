@@ -6,10 +6,9 @@ use std::io::Write;
 use std::os::raw::{c_char, c_int};
 use std::os::unix::io::AsRawFd;
 use std::process::Command;
-use std::thread;
 
 use crate::folder::{example, example_bytes, Folder};
-use crate::run::{ended, ended_with_input, leverbonnet, shell, Ended};
+use crate::run::{ended, ended_with_input, leverbonnet, shell, started, Ended};
 
 fn worked() -> String {
     String::from_utf8(example_bytes("worked.txt")).expect("sheets are text")
@@ -110,14 +109,11 @@ fn a_named_pipe_is_read() {
     let pipe = folder.join("job");
     let made = Command::new("mkfifo").arg(&pipe).status();
     assert!(made.expect("mkfifo can be started").success());
-    let end = pipe.clone();
-    let writer = thread::spawn(move || std::fs::write(end, example_bytes("worked.job")));
+    let mut writing = shell(r#"cat examples/worked.job >"$2""#);
+    let writer = started(writing.arg(&pipe));
     let printed = ended(leverbonnet(&["sheet"]).arg(&pipe));
     assert_eq!((printed.out, printed.status), (worked(), 0));
-    writer
-        .join()
-        .expect("the writer ends")
-        .expect("the whole job was read");
+    assert_eq!(writer.ended().status, 0);
 }
 
 #[test]

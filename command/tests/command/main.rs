@@ -12,5 +12,6 @@ mod outputs;
 mod project;
 mod run;
 mod sheets;
+mod unreached;
 mod user;
 mod words;
