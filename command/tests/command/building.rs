@@ -1,10 +1,11 @@
 //! How `./leverbonnet` builds, seen by stand-ins for all that it starts: rt
 //! proves nothing, cargo has its programs ready, and uname names any processor.
 
+use std::fs::{self, File};
 use std::io::Read;
 use std::process::{Command, Stdio};
 use std::thread;
-use std::time::Duration;
+use std::time::{Duration, Instant};
 
 use crate::copy::{path_of, Copy, StandIns};
 use crate::run::{ended, ended_with_input, program, started, Ended};
@@ -227,7 +228,9 @@ fn a_source_changed_during_a_build_leaves_the_program_due() {
         ("rt", RT, "crates/arith/src/lib.rt", &["rt", "program"]),
     ] {
         workshop.copy.touch(source);
-        let changing = format!("touch '{}'\n{script}", workshop.copy.join(source).display());
+        // A moment after the start, so that the two times differ.
+        let path = workshop.copy.join(source);
+        let changing = format!("sleep 0.05; touch '{}'\n{script}", path.display());
         workshop.stand_ins.put(tool, &changing);
         assert_eq!(workshop.started_by_a_call(), expected);
         workshop.stand_ins.put(tool, script);
@@ -274,17 +277,26 @@ fn a_call_waits_while_the_folder_is_locked() {
     let out = holder.stdout.as_mut().expect("it is piped");
     out.read_exact(&mut held)
         .expect("it says that it holds the lock");
-    let call = started(&mut workshop.call());
-    thread::sleep(Duration::from_millis(300));
+    let told = workshop.stand_ins.join("told");
+    let file = File::create(&told).expect("it is ours");
+    let call = started(workshop.call().stderr(file));
+    let waits = "leverbonnet: waits until another call or the gate is done building.\n";
+    wait_until(|| fs::read_to_string(&told).expect("it is ours") == waits);
     assert_eq!(workshop.stand_ins.started(), Vec::<String>::new());
     drop(holder.stdin.take());
     holder.wait().expect("it ends without its input");
-    let answer = call.ended();
-    assert_eq!(answer.out, "program sheet a b\n");
-    assert_eq!(
-        answer.told,
-        "leverbonnet: waits until another call or the gate is done building.\n"
-    );
+    assert_eq!(call.ended().out, "program sheet a b\n");
+}
+
+fn wait_until(holds: impl Fn() -> bool) {
+    let began = Instant::now();
+    while !holds() {
+        assert!(
+            began.elapsed() < Duration::from_secs(60),
+            "it does not come"
+        );
+        thread::sleep(Duration::from_millis(10));
+    }
 }
 
 #[test]
@@ -459,14 +471,15 @@ fn on_another_processor_the_program_is_told_how_the_calls_are_made() {
 }
 
 #[test]
-fn on_another_processor_missing_calls_are_built_again() {
+fn on_another_processor_missing_calls_are_made_again() {
     let workshop = Workshop::on("aarch64");
     put_kit(&workshop.stand_ins, "aarch64");
     let kit = workshop.stand_ins.join("kit");
-    for _ in 0..2 {
-        let answer = ended(workshop.call().env("RATTLE_HOME", &kit));
-        assert_eq!(answer.status, 0, "{answer:?}");
-        workshop.copy.remove("target/bin/calls");
-        workshop.copy.touch("command/src/main.rs");
+    for product in ["target/bin/calls", "target/program/calls"] {
+        for _ in 0..2 {
+            let answer = ended(workshop.call().env("RATTLE_HOME", &kit));
+            assert_eq!(answer.status, 0, "{product}: {answer:?}");
+            workshop.copy.remove(product);
+        }
     }
 }

@@ -223,6 +223,34 @@ fn a_file_is_found_from_where_the_caller_stands() {
 }
 
 #[test]
+fn the_gate_is_started_without_a_build() {
+    let copy = built();
+    let gate = copy.read(".ci/run");
+    copy.write(".ci/run", "#!/bin/sh\necho gate; exit 7\n");
+    copy.touch("crates.txt");
+    let stand_ins = failing(&["rt"]);
+    let answer = ended(stand_ins.before(&mut copy.call(&["test"])));
+    copy.write(".ci/run", &gate);
+    copy.write("target/made/library", "");
+    assert_eq!(
+        (answer.out.as_str(), answer.status),
+        ("gate\n", 7),
+        "{answer:?}"
+    );
+    assert_eq!(stand_ins.started(), Vec::<String>::new());
+}
+
+#[cfg(target_arch = "x86_64")]
+#[test]
+fn it_is_not_installed_over_itself() {
+    let copy = built();
+    let own = copy.read("leverbonnet");
+    let refused = ended(copy.call(&["install"]).arg(&**copy));
+    refused.assert_one_sentence(1, "is the project's own folder");
+    assert_eq!(copy.read("leverbonnet"), own);
+}
+
+#[test]
 fn words_that_need_no_proof_are_answered_before_any() {
     let copy = Copy::new();
     let stand_ins = failing(&["rt"]);
