@@ -1,6 +1,6 @@
 //! The running program put into a folder.
 
-use std::fs::{self, File, OpenOptions, Permissions};
+use std::fs::{self, File, Metadata, OpenOptions, Permissions};
 use std::io;
 use std::os::unix::ffi::OsStrExt;
 use std::os::unix::fs::{MetadataExt, OpenOptionsExt, PermissionsExt};
@@ -35,53 +35,47 @@ pub fn installed(folder: &Path) -> Status {
 /// Answers where the program is now, or why it is not there.
 fn put_into(folder: &Path) -> Result<PathBuf, String> {
     let name = shown(folder.as_os_str());
-    match fs::metadata(folder) {
-        Ok(found) if found.is_dir() => {}
-        Ok(_) => return Err(format!("{name} is no folder.")),
+    let program = folder.join(NAME);
+    let path = shown(program.as_os_str());
+    match fs::metadata(folder).map(|found| found.is_dir()) {
+        Ok(true) => {}
+        Ok(false) => return Err(format!("{name} is no folder.")),
         Err(trouble) => {
-            return Err(format!(
-                "{name} is no folder: {}.",
-                standard::reason(&trouble)
-            ))
+            let reason = standard::reason(&trouble);
+            return Err(format!("{name} is no folder: {reason}."));
         }
     }
-    let program = folder.join(NAME);
     if is_project(folder) {
         return Err(format!(
             "{name} is the project's own folder, where {NAME} is what builds it."
         ));
     }
     if is_running(&program) {
-        return Err(format!(
-            "{} is this very program.",
-            shown(program.as_os_str())
-        ));
+        return Err(format!("{path} is this very program."));
     }
     match replace(folder, &program) {
         Ok(()) => Ok(program),
-        Err(trouble) => Err(format!(
-            "{} can not be written: {}.",
-            shown(program.as_os_str()),
-            standard::reason(&trouble)
-        )),
+        Err(trouble) => {
+            let reason = standard::reason(&trouble);
+            Err(format!("{path} can not be written: {reason}."))
+        }
     }
 }
 
 /// Whether `./leverbonnet` of the project stands in the folder.
 fn is_project(folder: &Path) -> bool {
-    match (
-        words::project().map(fs::canonicalize),
-        fs::canonicalize(folder),
-    ) {
+    let project = words::project().map(fs::canonicalize);
+    match (project, fs::canonicalize(folder)) {
         (Some(Ok(project)), Ok(folder)) => project == folder,
         _ => false,
     }
 }
 
+/// Whether the running program is the file there, and no link to it.
 fn is_running(program: &Path) -> bool {
-    let file = |path: &Path| fs::metadata(path).map(|found| (found.dev(), found.ino()));
-    match (file(program), file(Path::new(RUNNING))) {
-        (Ok(there), Ok(running)) => there == running,
+    let file = |found: Metadata| (found.dev(), found.ino());
+    match (fs::symlink_metadata(program), fs::metadata(RUNNING)) {
+        (Ok(there), Ok(running)) => file(there) == file(running),
         _ => false,
     }
 }

@@ -17,11 +17,12 @@ pub fn printed(sources: &[Source]) -> Status {
             page.put_heading();
         }
         page.put_job();
-        if let Err(trouble) = standard::write(&page.text) {
-            return standard::unwritten(&trouble);
-        }
+        let written = standard::write(&page.text);
         if let Some(sentence) = page.sentence {
             standard::tell(&sentence);
+        }
+        if let Err(trouble) = written {
+            return standard::unwritten(&trouble);
         }
         worst = worst.max(page.status);
     }

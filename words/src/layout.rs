@@ -32,22 +32,22 @@ is said on standard error.
     read,
 };
 
-const DIAMETER: Size = Size {
-    name: "diameter",
-    decimals: 1,
-};
+const DIAMETER: Size = side("diameter");
+const FIRST: Size = side("first side");
+const SECOND: Size = side("second side");
 const NOZZLE: Size = Size {
     name: "nozzle",
     decimals: 3,
+    example: "0.25in",
 };
-const FIRST: Size = Size {
-    name: "first side",
-    decimals: 1,
-};
-const SECOND: Size = Size {
-    name: "second side",
-    decimals: 1,
-};
+
+const fn side(name: &'static str) -> Size {
+    Size {
+        name,
+        decimals: 1,
+        example: "24.0in",
+    }
+}
 
 /// A layout that is asked for; whether it is within its ranges is for the
 /// proved call to say.

@@ -10,6 +10,8 @@ use crate::complaint::{shown, Complaint};
 pub(crate) struct Size {
     pub name: &'static str,
     pub decimals: usize,
+    /// How one is written in inches.
+    pub example: &'static str,
 }
 
 /// What comes behind a number of inches.
@@ -19,41 +21,35 @@ impl Size {
     /// The word in units: a bare whole number is units already.
     pub fn units(&self, word: &OsStr) -> Result<u16, Complaint> {
         let text = word.to_str().unwrap_or("");
-        let units = match text.strip_suffix(INCHES).map(Decimal::read) {
-            Some(Some(inches)) => inches
-                .units(self.decimals)
-                .ok_or_else(|| self.uneven(word))?,
-            None if is_whole(text) => number(text),
-            None if Decimal::read(text).is_some() => return Err(self.without_unit(text)),
-            _ => return Err(self.no_size(word)),
+        let units = if let Some(units) = whole(text) {
+            units
+        } else if let Some(inches) = text.strip_suffix(INCHES).and_then(Decimal::read) {
+            let units = inches.units(self.decimals);
+            units.ok_or_else(|| self.uneven(text))?
+        } else if Decimal::read(text).is_some() {
+            return Err(self.without_unit(text));
+        } else {
+            return Err(self.no_size(word));
         };
-        u16::try_from(units).map_err(|_| self.too_large(word))
+        u16::try_from(units).map_err(|_| self.too_large(text))
     }
 
     /// Units as inches: `24.0 in`.
     pub fn shown(&self, units: u16) -> String {
-        let (units, in_an_inch, decimals) = (u64::from(units), self.in_an_inch(), self.decimals);
-        let (whole, part) = (units / in_an_inch, units % in_an_inch);
-        format!("{whole}.{part:0decimals$} in")
+        let decimals = self.decimals;
+        let in_an_inch = 10u64.pow(decimals as u32);
+        let (inches, part) = (u64::from(units) / in_an_inch, u64::from(units) % in_an_inch);
+        format!("{inches}.{part:0decimals$} in")
     }
 
-    fn in_an_inch(&self) -> u64 {
-        10u64.pow(self.decimals as u32)
-    }
-
-    /// `0.1 in`
+    /// One unit.
     fn step(&self) -> String {
         self.shown(1)
     }
 
-    /// Twenty-four inches, as they are to be written.
-    fn example(&self) -> String {
-        format!("24.0{INCHES}")
-    }
-
-    fn uneven(&self, word: &OsStr) -> Complaint {
-        let (name, word, step) = (self.name, shown(word), self.step());
-        format!("the {name} {word} is no whole number of steps of {step}, and it is not rounded.")
+    fn uneven(&self, text: &str) -> Complaint {
+        let (name, step) = (self.name, self.step());
+        format!("the {name} {text} is no whole number of steps of {step}, and it is not rounded.")
             .into()
     }
 
@@ -65,7 +61,7 @@ impl Size {
 
     fn no_size(&self, word: &OsStr) -> Complaint {
         let (name, word) = (self.name, shown(word));
-        let (step, example) = (self.step(), self.example());
+        let (step, example) = (self.step(), self.example);
         format!(
             "the {name} {word} is neither a whole number of steps of {step} nor inches such as \
              {example}."
@@ -73,21 +69,17 @@ impl Size {
         .into()
     }
 
-    fn too_large(&self, word: &OsStr) -> Complaint {
-        let (name, word, greatest) = (self.name, shown(word), self.shown(u16::MAX));
-        format!("the {name} {word} is above the greatest that can be asked, {greatest}.").into()
+    fn too_large(&self, text: &str) -> Complaint {
+        let (name, greatest) = (self.name, self.shown(u16::MAX));
+        format!("the {name} {text} is above the greatest that can be asked, {greatest}.").into()
     }
 }
 
 /// The number of points.
 pub(crate) fn points(word: &OsStr) -> Result<u16, Complaint> {
-    let text = word.to_str().unwrap_or("");
-    let value = if is_whole(text) {
-        number(text)
-    } else {
-        u64::MAX
-    };
-    u16::try_from(value).map_err(|_| {
+    let points = whole(word.to_str().unwrap_or(""));
+    let points = points.and_then(|points| u16::try_from(points).ok());
+    points.ok_or_else(|| {
         let (word, greatest) = (shown(word), u16::MAX);
         format!("the number of points {word} is no whole number up to {greatest}.").into()
     })
@@ -96,40 +88,32 @@ pub(crate) fn points(word: &OsStr) -> Result<u16, Complaint> {
 /// A number with or without a point: at least one digit before it and, where
 /// it is there, after it.
 struct Decimal<'a> {
-    whole: &'a str,
-    part: &'a str,
+    before: &'a str,
+    after: &'a str,
 }
 
 impl<'a> Decimal<'a> {
     fn read(text: &'a str) -> Option<Self> {
-        let (whole, part) = text.split_once('.').unwrap_or((text, "0"));
-        (is_whole(whole) && is_whole(part)).then_some(Decimal { whole, part })
+        let (before, after) = text.split_once('.').unwrap_or((text, "0"));
+        (is_digits(before) && is_digits(after)).then_some(Decimal { before, after })
     }
 
     /// The number in units of 10 to the power of -`decimals`, if it is a whole
-    /// number of them. One that fits no u64 is answered as the greatest u64.
+    /// number of them.
     fn units(&self, decimals: usize) -> Option<u64> {
-        let part = self.part.trim_end_matches('0');
-        let missing = decimals.checked_sub(part.len())?;
-        Some(number(&format!(
-            "{}{part}{}",
-            self.whole,
-            "0".repeat(missing)
-        )))
+        let after = self.after.trim_end_matches('0');
+        let zeros = "0".repeat(decimals.checked_sub(after.len())?);
+        whole(&format!("{}{after}{zeros}", self.before))
     }
 }
 
-fn is_whole(text: &str) -> bool {
+fn is_digits(text: &str) -> bool {
     !text.is_empty() && text.bytes().all(|byte| byte.is_ascii_digit())
 }
 
-/// The value of digits, or the greatest u64 where it is more than that.
-fn number(digits: &str) -> u64 {
-    digits.bytes().fold(0u64, |value, digit| {
-        value
-            .saturating_mul(10)
-            .saturating_add(u64::from(digit - b'0'))
-    })
+/// The value of digits; the greatest u64 stands for all that are greater.
+fn whole(text: &str) -> Option<u64> {
+    is_digits(text).then(|| text.parse().unwrap_or(u64::MAX))
 }
 
 #[cfg(test)]
@@ -139,10 +123,12 @@ mod tests {
     const SIDE: Size = Size {
         name: "side",
         decimals: 1,
+        example: "24.0in",
     };
     const NOZZLE: Size = Size {
         name: "nozzle",
         decimals: 3,
+        example: "0.25in",
     };
 
     fn units(size: &Size, word: &str) -> Result<u16, String> {

@@ -126,6 +126,18 @@ fn one_that_is_running_is_replaced() {
 }
 
 #[test]
+fn a_link_is_replaced_and_what_it_leads_to_stays() {
+    let other = Folder::new();
+    other.put_script("own", "echo own");
+    let folder = Folder::new();
+    symlink(other.join("own"), folder.join("leverbonnet")).expect("it is ours");
+    assert_eq!(install(&folder).status, 0);
+    assert_eq!(ended(alone(&folder).arg("--version")).status, 0);
+    let kept = fs::read_to_string(other.join("own")).expect("it is there");
+    assert!(kept.contains("echo own"));
+}
+
+#[test]
 fn it_does_not_copy_itself_onto_itself() {
     let folder = with_program();
     let ended = ended(alone(&folder).arg("install").arg(&*folder));

@@ -91,9 +91,12 @@ fn the_null_device_takes_everything_however_it_is_open() {
 #[test]
 fn an_output_that_can_not_be_written_stops_the_rest() {
     let ended = ended(&mut shell(
-        r#""$1" sheet examples/missing.job examples/refused.job >/dev/full"#,
+        r#""$1" sheet examples/refused.job examples/missing.job >/dev/full"#,
     ));
-    ended.assert_one_sentence(1, "standard output can not be written");
+    let told: Vec<&str> = ended.told.lines().collect();
+    assert_eq!((told.len(), ended.status), (2, 1), "{ended:?}");
+    assert!(told[0].starts_with("leverbonnet: examples/refused.job: refused"));
+    assert!(told[1].starts_with("leverbonnet: standard output can not be written"));
 }
 
 #[test]
