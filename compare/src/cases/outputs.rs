@@ -1,9 +1,10 @@
 //! Outputs of every length about the need, for runs with no finding, with few
 //! and with many.
 
+use std::iter;
+
 use independent::job::{Job, Shape, WeighingKind};
 use independent::samples;
-
 use leverbonnet::pipe::Call;
 
 use crate::call::{FINDING_LENGTH, LINES_LENGTH};
@@ -66,7 +67,8 @@ impl Outputs {
 
     fn texts(&self) -> impl Iterator<Item = (Call, Expected)> {
         let needed = independent::sheet(&self.case.subject.bytes()).len();
-        let lengths = needed - ABOUT_TEXT..=needed + ABOUT_TEXT;
+        let about = needed - ABOUT_TEXT..=needed + ABOUT_TEXT;
+        let lengths = iter::once(0).chain(about);
         lengths.map(move |out_len| (Call::SheetText { out_len }, refused_if(out_len < needed)))
     }
 }
