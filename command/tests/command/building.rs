@@ -7,8 +7,8 @@ use std::process::{Command, Stdio};
 use std::thread;
 use std::time::{Duration, Instant};
 
-use crate::copy::{path_of, Copy, StandIns};
-use crate::run::{ended, ended_with_input, program, started, Ended};
+use crate::copy::{outside, path_of, Copy, StandIns};
+use crate::run::{ended, ended_with_input, started, Ended};
 use crate::user::held_back;
 
 /// Says what rt says, and makes what rt makes.
@@ -330,12 +330,11 @@ fn closed_descriptors_do_not_disturb_a_build() {
         "ready/leverbonnet",
         r#"echo "program $*" >"$LEVERBONNET_PROJECT/answer""#,
     );
-    let mut command = program("sh");
+    let mut command = outside("sh");
     command
         .args(["-c", closing])
         .arg(workshop.copy.join("leverbonnet"))
         .arg("sheet");
-    command.env_remove("LEVERBONNET_LIB_DIR");
     assert_eq!(ended(workshop.stand_ins.before(&mut command)).status, 0);
     assert_eq!(workshop.copy.read("answer"), "program sheet\n");
 }

@@ -1,7 +1,7 @@
 //! Copies of the project, and what stands in for the tools that it starts.
 
 use std::env;
-use std::ffi::OsString;
+use std::ffi::{OsStr, OsString};
 use std::fs;
 use std::ops::Deref;
 use std::os::unix::fs::symlink;
@@ -33,11 +33,8 @@ impl Copy {
 
     /// `./leverbonnet` of the copy with these words, called from elsewhere.
     pub fn call(&self, words: &[&str]) -> Command {
-        let mut command = program(self.join("leverbonnet"));
+        let mut command = outside(self.join("leverbonnet"));
         command.args(words).current_dir("/");
-        for variable in ["LEVERBONNET_CALLS", "LEVERBONNET_LIB_DIR", "RUSTC"] {
-            command.env_remove(variable);
-        }
         command
     }
 
@@ -80,6 +77,15 @@ impl Deref for Copy {
     fn deref(&self) -> &Path {
         &self.0
     }
+}
+
+/// A program to which nothing is handed of how these tests were built and called.
+pub fn outside(path: impl AsRef<OsStr>) -> Command {
+    let mut command = program(path);
+    for variable in ["LEVERBONNET_CALLS", "LEVERBONNET_LIB_DIR", "RUSTC"] {
+        command.env_remove(variable);
+    }
+    command
 }
 
 /// The names in a folder of the project.

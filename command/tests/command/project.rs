@@ -9,9 +9,9 @@ use std::os::unix::fs::symlink;
 use std::path::PathBuf;
 use std::sync::{Mutex, MutexGuard, PoisonError};
 
-use crate::copy::{Copy, StandIns};
+use crate::copy::{outside, Copy, StandIns};
 use crate::folder::{example, example_bytes, project, Folder};
-use crate::run::{ended, program, started, Ended, Running};
+use crate::run::{ended, started, Ended, Running};
 use crate::user::held_back;
 
 /// The copy that these tests use in turn, because building one takes seconds.
@@ -72,10 +72,6 @@ fn put_library(copy: &Copy) {
 fn put_library(copy: &Copy) {
     const CALLS: &str = "target/bin/calls";
     copy.put(&project().join(CALLS), CALLS);
-    let mut command = program(copy.join("scripts/run-program"));
-    let printed = ended(command.args(["--print", "calls"]));
-    assert_eq!(printed.status, 0, "{printed:?}");
-    copy.write("target/program/calls", &printed.out);
     copy.write("target/made/library", "");
 }
 
@@ -187,10 +183,10 @@ fn it_is_found_behind_links() {
     symlink(copy.join("leverbonnet"), folder.join("far")).expect("it is ours");
     symlink("far", folder.join("near")).expect("it is ours");
     for link in ["far", "near"] {
-        let mut command = program(folder.join(link));
+        let mut command = outside(folder.join(link));
         assert_sheet(&ended(command.arg("sheet").arg(example("worked.job"))));
     }
-    let mut command = program("near");
+    let mut command = outside("near");
     let path = format!("{}:{}", folder.display(), env::var("PATH").unwrap());
     command.env("PATH", path).arg("sheet");
     assert_sheet(&ended(command.arg(example("worked.job"))));
@@ -202,13 +198,10 @@ fn a_path_for_cd_leaves_nothing_behind() {
     copy.touch("command/src/main.rs");
     let above = copy.parent().expect("it lies in a folder");
     let name = copy.file_name().expect("it has a name");
-    let mut command = program(PathBuf::from(name).join("leverbonnet"));
+    let mut command = outside(PathBuf::from(name).join("leverbonnet"));
     let elsewhere = Folder::new();
     fs::create_dir(elsewhere.join(name)).expect("it is ours");
     command.current_dir(above).env("CDPATH", &*elsewhere);
-    for variable in ["LEVERBONNET_LIB_DIR", "RUSTC"] {
-        command.env_remove(variable);
-    }
     assert_sheet(&ended(command.arg("sheet").arg(example("worked.job"))));
     let left = fs::read_dir(elsewhere.join(name)).expect("it is ours");
     assert_eq!(left.count(), 0);
@@ -220,6 +213,27 @@ fn a_file_is_found_from_where_the_caller_stands() {
     copy.touch("command/src/main.rs");
     let mut call = copy.call(&["sheet", "worked.job"]);
     assert_sheet(&ended(call.current_dir(project().join("examples"))));
+}
+
+#[test]
+fn an_output_that_can_not_be_written_is_told_built_or_due() {
+    let copy = built();
+    for (direction, reason) in [(">&-", "It is closed"), (">/dev/full", "No space left")] {
+        for due in [false, true] {
+            if due {
+                copy.touch("command/src/main.rs");
+            }
+            let line = format!(r#""$0" "$@" {direction}"#);
+            let mut command = outside("sh");
+            command
+                .env_remove("LEVERBONNET_LIB_DIR")
+                .env_remove("RUSTC");
+            command.args(["-c", &line]).arg(copy.join("leverbonnet"));
+            let ended = ended(command.arg("sheet").arg(example("worked.job")));
+            let sentence = format!("standard output can not be written: {reason}");
+            ended.assert_one_sentence(1, &sentence);
+        }
+    }
 }
 
 #[test]
