@@ -55,7 +55,8 @@ struct Workshop {
 }
 
 impl Workshop {
-    /// A copy with nothing built, on such a processor.
+    /// A copy with nothing built, on such a processor. Of the kit there is what
+    /// its programs are run with.
     fn on(processor: &str) -> Self {
         let stand_ins = StandIns::new();
         stand_ins.put("rt", RT);
@@ -63,6 +64,9 @@ impl Workshop {
         stand_ins.put_quiet("uname", &format!("echo {processor}"));
         stand_ins.put_quiet("ready/judge", FOR_THE_PROGRAM);
         stand_ins.put_quiet("ready/leverbonnet", PROGRAM);
+        for tool in ["lib/ld-linux-x86-64.so.2", "bin/qemu-x86_64"] {
+            stand_ins.put_quiet(&format!("kit/on/{processor}/toolchain/{tool}"), "");
+        }
         let copy = Copy::new();
         Workshop { copy, stand_ins }
     }
@@ -82,6 +86,7 @@ impl Workshop {
     fn call(&self) -> Command {
         let mut command = self.copy.call(&["sheet", "a b"]);
         self.stand_ins.before(&mut command);
+        command.env("RATTLE_HOME", self.stand_ins.join("kit"));
         command
     }
 
@@ -106,6 +111,13 @@ impl Workshop {
         let mut names: Vec<&str> = self.stand_ins.started().iter().map(name).collect();
         names.dedup();
         names
+    }
+
+    /// What rt was told since anybody last asked.
+    fn proofs_started(&self) -> Vec<String> {
+        let mut started = self.stand_ins.started();
+        started.retain(|line| line.starts_with("rt "));
+        started
     }
 
     /// A call that finds all that it needs but this.
@@ -155,13 +167,9 @@ fn everything_below_the_library_is_proved_and_then_the_library() {
     let mut crates = crates_up_to(&workshop.copy, "leverbonnet");
     crates.pop();
     workshop.assert_answers();
-    let started = workshop.stand_ins.started();
-    let proving: Vec<&String> = started
-        .iter()
-        .filter(|line| line.starts_with("rt "))
-        .collect();
     let check = format!("rt check {}", crates.join(" "));
-    assert_eq!(proving, [&check, "rt staticlib leverbonnet"]);
+    let expected = [&check, "rt staticlib leverbonnet"];
+    assert_eq!(workshop.proofs_started(), expected);
 }
 
 #[test]
@@ -367,11 +375,7 @@ fn a_proof_that_fails_is_told_with_its_log_and_tried_again() {
         );
         let log = workshop.copy.read("target/made/library.log");
         assert!(log.contains("rt: lines NOT PROVED"), "{log}");
-        assert!(workshop
-            .stand_ins
-            .started()
-            .iter()
-            .any(|line| line.starts_with("rt ")));
+        assert_eq!(workshop.proofs_started().len(), 1);
     }
     workshop.stand_ins.put("rt", RT);
     workshop.assert_answers();
@@ -430,23 +434,12 @@ fn a_folder_that_can_not_be_written_is_told_where_a_build_is_due() {
     );
 }
 
-/// A kit for another processor, as far as a command line of its programs goes.
-fn put_kit(stand_ins: &StandIns, processor: &str) {
-    for tool in ["lib/ld-linux-x86-64.so.2", "bin/qemu-x86_64"] {
-        let path = format!("kit/on/{processor}/toolchain/{tool}");
-        stand_ins.put_quiet(&path, "");
-    }
-}
-
 #[test]
 fn on_another_processor_the_program_is_told_how_the_calls_are_made() {
     let workshop = Workshop::on("aarch64");
-    put_kit(&workshop.stand_ins, "aarch64");
-    let kit = workshop.stand_ins.join("kit");
-    workshop
-        .stand_ins
-        .put_quiet("ready/leverbonnet", r#"printf '%s\n' "$LEVERBONNET_CALLS""#);
-    let tools = kit.join("on/aarch64/toolchain");
+    let telling = r#"printf '%s\n' "$LEVERBONNET_CALLS""#;
+    workshop.stand_ins.put_quiet("ready/leverbonnet", telling);
+    let tools = workshop.stand_ins.join("kit/on/aarch64/toolchain");
     let expected = format!(
         "{0}/bin/qemu-x86_64\n{0}/lib/ld-linux-x86-64.so.2\n--library-path\n{0}/lib\n{1}\n",
         tools.display(),
@@ -454,31 +447,19 @@ fn on_another_processor_the_program_is_told_how_the_calls_are_made() {
     );
     // The second call finds everything built.
     for _ in 0..2 {
-        let answer = ended(workshop.call().env("RATTLE_HOME", &kit));
-        assert_eq!(
-            (answer.out.as_str(), answer.status),
-            (expected.as_str(), 0),
-            "{answer:?}"
-        );
+        let answer = ended(&mut workshop.call());
+        assert_eq!((&answer.out, answer.status), (&expected, 0), "{answer:?}");
     }
-    let started = workshop.stand_ins.started();
-    let proving: Vec<&String> = started
-        .iter()
-        .filter(|line| line.starts_with("rt "))
-        .collect();
-    assert_eq!(proving, ["rt check calls"]);
+    assert_eq!(workshop.proofs_started(), ["rt check calls"]);
 }
 
 #[test]
 fn on_another_processor_missing_calls_are_made_again() {
     let workshop = Workshop::on("aarch64");
-    put_kit(&workshop.stand_ins, "aarch64");
-    let kit = workshop.stand_ins.join("kit");
+    workshop.assert_answers();
     for product in ["target/bin/calls", "target/program/calls"] {
-        for _ in 0..2 {
-            let answer = ended(workshop.call().env("RATTLE_HOME", &kit));
-            assert_eq!(answer.status, 0, "{product}: {answer:?}");
-            workshop.copy.remove(product);
-        }
+        workshop.copy.remove(product);
+        workshop.assert_answers();
+        assert!(workshop.copy.join(product).exists(), "{product}");
     }
 }

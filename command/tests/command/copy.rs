@@ -62,6 +62,11 @@ impl Copy {
         fs::write(path, text).expect("it is ours");
     }
 
+    /// Puts a file into the copy that can be run.
+    pub fn put_script(&self, name: &str, text: &str) {
+        self.0.put_script(name, text);
+    }
+
     pub fn read(&self, name: &str) -> String {
         fs::read_to_string(self.join(name)).unwrap_or_default()
     }
@@ -110,7 +115,7 @@ impl StandIns {
     }
 
     /// A stand-in that writes down its words before it does what the script
-    /// says. In the script $stand_ins is this folder, and $others the PATH.
+    /// says. In the script $stand_ins is this folder.
     pub fn put(&self, name: &str, script: &str) {
         let line = r#"stand_ins=$(dirname -- "$0"); echo "${0##*/} $*" >>"$stand_ins/started""#;
         self.0.put_script(name, &format!("{line}\n{script}"));
@@ -134,7 +139,7 @@ impl StandIns {
         let mut path = OsString::from(&**self);
         path.push(":");
         path.push(others());
-        command.env("PATH", path).env("others", others())
+        command.env("PATH", path)
     }
 }
 

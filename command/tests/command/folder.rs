@@ -2,10 +2,11 @@
 
 use std::env;
 use std::fs::{self, Permissions};
+use std::io::Write;
 use std::ops::Deref;
 use std::os::unix::fs::PermissionsExt;
 use std::path::{Path, PathBuf};
-use std::process;
+use std::process::{self, Command, Stdio};
 use std::sync::atomic::{AtomicUsize, Ordering};
 use std::thread;
 
@@ -38,14 +39,23 @@ impl Folder {
         Folder(path)
     }
 
-    /// Writes a file that can be run.
+    /// Writes a file that can be run. Another process writes it: a program that
+    /// a test beside this one starts could for a moment hold the file open too,
+    /// and a file that is open for writing can't be run.
     pub fn put_script(&self, name: &str, text: &str) {
         let path = self.0.join(name);
-        if let Some(above) = path.parent() {
-            fs::create_dir_all(above).expect("a folder can be made in ours");
-        }
-        fs::write(&path, format!("#!/bin/sh\n{text}\n")).expect("a file can be written in ours");
-        fs::set_permissions(&path, Permissions::from_mode(0o755)).expect("it is ours");
+        let above = path.parent().expect("it lies in the folder");
+        fs::create_dir_all(above).expect("the folder is ours");
+        let mut writer = Command::new("sh")
+            .args(["-c", r#"cat >"$1" && chmod 755 "$1""#, "sh"])
+            .arg(&path)
+            .stdin(Stdio::piped())
+            .spawn()
+            .expect("sh can be started");
+        let mut pipe = writer.stdin.take().expect("it is piped");
+        write!(pipe, "#!/bin/sh\n{text}\n").expect("it is read");
+        drop(pipe);
+        assert!(writer.wait().expect("it can be waited for").success());
     }
 }
 

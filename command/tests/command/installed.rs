@@ -34,13 +34,11 @@ fn alone(folder: &Folder) -> Command {
 }
 
 fn names(folder: &Path) -> Vec<String> {
-    let files = fs::read_dir(folder).expect("it is a folder");
-    let name = |file: io::Result<fs::DirEntry>| file.unwrap().file_name();
-    let mut names: Vec<String> = files
-        .map(|file| name(file).to_string_lossy().into_owned())
-        .collect();
-    names.sort();
-    names
+    fs::read_dir(folder)
+        .expect("it is a folder")
+        .map(|file| file.expect("it can be listed").file_name())
+        .map(|name| name.to_string_lossy().into_owned())
+        .collect()
 }
 
 #[test]

@@ -240,7 +240,7 @@ fn an_output_that_can_not_be_written_is_told_built_or_due() {
 fn the_gate_is_started_without_a_build() {
     let copy = built();
     let gate = copy.read(".ci/run");
-    copy.write(".ci/run", "#!/bin/sh\necho gate; exit 7\n");
+    copy.put_script(".ci/run", "echo gate; exit 7");
     copy.touch("crates.txt");
     let stand_ins = failing(&["rt"]);
     let answer = ended(stand_ins.before(&mut copy.call(&["test"])));
