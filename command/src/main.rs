@@ -1,6 +1,6 @@
 //! The command `leverbonnet`: prints the sheets of jobs, lays out traverse
 //! points, installs itself. Its words are judged by the package `words`, and
-//! every answer comes from a proved call.
+//! every sheet and every distance comes from a proved call.
 
 mod drawing;
 mod install;
