@@ -1,0 +1,34 @@
+//! The command `leverbonnet`: prints the sheets of jobs, lays out traverse
+//! points, installs itself. Its words are judged by the package `words`, and
+//! every sheet and every distance comes from a proved call.
+
+mod drawing;
+mod install;
+mod layout;
+mod sheet;
+mod trouble;
+
+use std::env;
+use std::process::ExitCode;
+
+use words::{Judged, Status, Work};
+
+fn main() -> ExitCode {
+    match words::judged(env::args_os().skip(1)) {
+        Judged::Answered(status) => status.into(),
+        Judged::Work(work) => {
+            let status = done(work);
+            // Where the calls go over a pipe, the program that makes them ends first.
+            leverbonnet::pipe::end();
+            status.into()
+        }
+    }
+}
+
+fn done(work: Work) -> Status {
+    match work {
+        Work::Sheet(sources) => sheet::printed(&sources),
+        Work::Layout(layout) => layout::printed(&layout),
+        Work::Install(folder) => install::installed(folder.as_ref()),
+    }
+}

@@ -1,0 +1,17 @@
+//! The command as its user meets it: the program itself, the program installed,
+//! and `./leverbonnet` of a copied project.
+
+mod building;
+mod copy;
+mod drawings;
+mod folder;
+mod inputs;
+mod installed;
+mod layouts;
+mod outputs;
+mod project;
+mod run;
+mod sheets;
+mod unreached;
+mod user;
+mod words;

@@ -1,0 +1,142 @@
+//! `sheet` over files.
+
+use std::ffi::OsStr;
+use std::fs;
+use std::os::unix::ffi::OsStrExt;
+
+use crate::folder::{example, example_bytes, project, Folder};
+use crate::run::{ended, leverbonnet, Ended};
+
+const GOOD: &str = "examples/worked.job";
+const REFUSED: &str = "examples/refused.job";
+const MISSING: &str = "examples/missing.job";
+
+fn sheet(files: &[&str]) -> Ended {
+    ended(leverbonnet(&["sheet"]).args(files))
+}
+
+fn stored(name: &str) -> String {
+    String::from_utf8(example_bytes(name)).expect("sheets are text")
+}
+
+#[test]
+fn every_stored_sheet_is_printed() {
+    let files = fs::read_dir(project().join("examples")).expect("there are examples");
+    let mut met = 0;
+    for file in files {
+        let path = file.expect("examples can be listed").path();
+        if path.extension() != Some(OsStr::new("txt")) {
+            continue;
+        }
+        let text = fs::read_to_string(&path).expect("sheets are text");
+        let printed = ended(leverbonnet(&["sheet"]).arg(path.with_extension("job")));
+        let status = if text.starts_with("REFUSED") { 2 } else { 0 };
+        assert_eq!((printed.out, printed.status), (text, status));
+        met += 1;
+    }
+    assert!(met >= 3, "{met} stored sheets");
+}
+
+#[test]
+fn the_longest_job_is_printed_as_the_independent_program_prints_it() {
+    let printed = sheet(&["examples/longest.job"]);
+    let expected = independent::sheet(&example_bytes("longest.job"));
+    assert_eq!(printed.out.into_bytes(), expected);
+    assert_eq!(printed.status, 0);
+}
+
+#[test]
+fn a_good_job_tells_nothing() {
+    assert_eq!(sheet(&[GOOD]).told, "");
+}
+
+#[test]
+fn one_file_has_no_heading() {
+    assert_eq!(sheet(&[GOOD]).out, stored("worked.txt"));
+}
+
+#[test]
+fn of_several_files_each_has_its_heading() {
+    let printed = sheet(&[GOOD, REFUSED, MISSING, "examples/several-runs.job"]);
+    let expected = format!(
+        "==> {GOOD} <==\n{}==> {REFUSED} <==\n{}==> {MISSING} <==\n\
+         ==> examples/several-runs.job <==\n{}",
+        stored("worked.txt"),
+        stored("refused.txt"),
+        stored("several-runs.txt")
+    );
+    assert_eq!(printed.out, expected);
+}
+
+#[test]
+fn a_heading_has_the_bytes_of_the_name() {
+    let folder = Folder::new();
+    let name = OsStr::from_bytes(b"a\xff b.job");
+    fs::copy(example("worked.job"), folder.join(name)).expect("any name can be given");
+    let mut command = leverbonnet(&["sheet"]);
+    let out = command
+        .current_dir(&*folder)
+        .args([name, name])
+        .output()
+        .expect("timeout can be started")
+        .stdout;
+    assert!(out.starts_with(b"==> a\xff b.job <==\nRUN 7 ACCEPTED\n"));
+}
+
+#[test]
+fn the_worst_of_all_files_is_the_status() {
+    for (files, status) in [
+        (&[GOOD][..], 0),
+        (&[REFUSED], 2),
+        (&[MISSING], 1),
+        (&[GOOD, GOOD], 0),
+        (&[GOOD, REFUSED], 2),
+        (&[REFUSED, GOOD], 2),
+        (&[GOOD, MISSING], 1),
+        (&[MISSING, GOOD], 1),
+        (&[REFUSED, MISSING], 1),
+        (&[MISSING, REFUSED], 1),
+        (&[GOOD, REFUSED, MISSING], 1),
+        (&[MISSING, REFUSED, GOOD], 1),
+        (&[REFUSED, MISSING, GOOD], 1),
+    ] {
+        assert_eq!(sheet(files).status, status, "{files:?}");
+    }
+}
+
+#[test]
+fn a_refused_file_is_named_with_the_cause() {
+    assert_eq!(
+        sheet(&[REFUSED]).told,
+        "leverbonnet: examples/refused.job: refused, a field is out of its range (5 at byte 167).\n"
+    );
+}
+
+#[test]
+fn a_missing_file_is_named_with_the_reason() {
+    sheet(&[MISSING]).assert_one_sentence(
+        1,
+        "examples/missing.job can not be read: No such file or directory.",
+    );
+}
+
+#[test]
+fn each_refused_or_missing_file_gets_one_sentence() {
+    let told = sheet(&[REFUSED, GOOD, MISSING, REFUSED]).told;
+    let named: Vec<bool> = told.lines().map(|line| line.contains(REFUSED)).collect();
+    assert_eq!(named, [true, false, true], "{told}");
+}
+
+#[test]
+fn a_name_with_a_line_break_keeps_its_sentence_on_one_line() {
+    sheet(&["no\nfile"]).assert_one_sentence(1, "no\\nfile can not be read");
+}
+
+#[test]
+fn a_file_that_begins_with_a_dash_is_read_after_two() {
+    let folder = Folder::new();
+    fs::copy(example("worked.job"), folder.join("--help")).expect("any name can be given");
+    let mut command = leverbonnet(&["sheet", "--", "--help"]);
+    let printed = ended(command.current_dir(&*folder));
+    assert_eq!(printed.out, stored("worked.txt"));
+}
