@@ -70,7 +70,7 @@ fn a_program_that_is_not_there() {
     env::set_var(VARIABLE, "/nowhere/calls");
     assert!(unreached().contains("there is no program /nowhere/calls"));
     env::set_var(VARIABLE, "no-such-program-calls");
-    assert!(unreached().contains("no-such-program-calls could not be started"));
+    assert!(unreached().starts_with("no-such-program-calls "));
 }
 
 #[test]
