@@ -3,7 +3,7 @@
 use std::fs;
 use std::path::{Path, PathBuf};
 
-use leverbonnet::{sheet_text, Error};
+use leverbonnet::{sheet_text, Error, MOST_TEXT};
 
 fn stored_texts() -> Vec<PathBuf> {
     let folder = Path::new(env!("CARGO_MANIFEST_DIR")).join("../examples");
@@ -41,4 +41,14 @@ fn bytes_past_the_longest_job_do_not_change_the_refusal() {
     let mut job = include_bytes!("../../examples/longest.job").to_vec();
     job.resize(100_000, 0);
     assert_eq!(printed(&job), b"REFUSED 8 17161\n");
+}
+
+#[test]
+fn the_length_that_suffices_is_the_proved_one_here_and_in_the_header() {
+    let theorem = include_str!("../../crates/printing/proofs/Lengths.antt");
+    let header = include_str!("../../include/leverbonnet.h");
+    let proved = format!("\npub text-most : (s : List ℕ) → length (jobText s) ≤ {MOST_TEXT}\n");
+    let defined = format!("\n#define LEVERBONNET_TEXT_MOST {MOST_TEXT}\n");
+    assert!(theorem.contains(&proved), "{proved}");
+    assert!(header.contains(&defined), "{defined}");
 }
