@@ -1,6 +1,6 @@
 -- Each way through the call for a job's text, and what came of it.
 use Prim.Native.Nat.{ℕ, _^_, _≤_, _<_}
-use mathlib.Core.Path.{_≡_, refl, sym, _∙_, ap}
+use mathlib.Core.Path.{_≡_, refl, ap}
 use mathlib.Core.List.{List}
 use native.Mathlib.Omega.{arith}
 use borrow.Author.Tests.{lt-ltb, le-ltb}
@@ -15,7 +15,7 @@ use Rattle.reduction.proofs.ClearJobs.{count-of-runs, read-refused}
 use Rattle.characters.specs.Writing.{Wrote}
 use Rattle.characters.proofs.Texts.{written-end, written-front}
 use Rattle.printing.specs.Jobs.{runsText, jobText}
-use Rattle.printing.specs.Printing.{Printing, ifRoomy, printing, printingAnswer, printingOut, Printed, PrintsClear, Prints}
+use Rattle.printing.specs.Printing.{ifRoomy, printing, printingAnswer, printingOut, PrintsClear, Prints}
 use Rattle.printing.proofs.Lengths.{text-most}
 
 -- the text of a job without trouble is that of its runs

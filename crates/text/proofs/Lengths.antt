@@ -1,6 +1,6 @@
 -- How long a text can be: a line, a finding, a run.
 use Prim.Native.Nat.{ℕ, _+_, _-_, _≤_, _<_}
-use mathlib.Core.Path.{_≡_, refl, ap}
+use mathlib.Core.Path.{refl}
 use mathlib.Core.Bool.{Bool, true, false, cond}
 use mathlib.Core.List.{List, [], _∷_, _++_}
 use native.Mathlib.Omega.{arith}
@@ -17,12 +17,11 @@ use Rattle.certs.specs.declared.Chosen.{Chosen}
 use Rattle.findings.specs.declared.Finding.{Finding}
 use Rattle.readings.specs.Ranges.{oneOf}
 use Rattle.findings.specs.Rules.{placesOf, placeOf}
-use Rattle.findings.specs.Listing.{noFinding, most, listed, findings, findingsFor, linesFor, Breaks}
+use Rattle.findings.specs.Listing.{noFinding, most, listed, findingsFor, linesFor, Breaks}
 use Rattle.findings.proofs.Members.{listed-exactly}
 use Rattle.findings.proofs.Most.{at-most-for}
 use Rattle.reduction.specs.Reducing.{worked}
 use Rattle.characters.specs.Numbers.{decimal}
-use Rattle.characters.specs.Writing.{joined}
 use Rattle.characters.proofs.Decimals.{decimal-digits, signed-short}
 use Rattle.characters.proofs.Texts.{joined-short}
 use Rattle.text.specs.Sheets.{space, newline, valueText, lineText, lineAt, sheetText}

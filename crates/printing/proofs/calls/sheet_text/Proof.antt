@@ -1,8 +1,6 @@
 -- Each way through the call is what comes of its case.
 use borrow.Author.Needs.{needs}
-use mathlib.Core.Path.{_≡_}
 use native.Mathlib.Omega.{arith}
-use Rattle.reduction.specs.Reducing.{ClearJob}
 use Rattle.reduction.proofs.ClearJobs.{read-clear, place-fits}
 use Rattle.characters.specs.Writing.{Wrote}
 use Rattle.characters.proofs.Texts.{written-end}

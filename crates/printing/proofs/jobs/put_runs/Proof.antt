@@ -1,6 +1,5 @@
 -- The loop writes one run a turn.
 use Prim.Native.Nat.{_-_, _≤_}
-use mathlib.Core.Path.{_≡_}
 use native.Mathlib.Omega.{arith}
 use Rattle.reduction.specs.Reducing.{ClearRun, reducedRun}
 use Rattle.reduction.proofs.ClearJobs.{count-of-runs, few-runs, found-few}
