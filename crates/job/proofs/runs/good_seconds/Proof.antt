@@ -8,7 +8,7 @@ use native.Mathlib.Omega.{arith}
 use lib.Dec.{eqb}
 use lib.ListN.{length}
 use Rattle.heads.specs.Values.{runHeaderSize}
-use Rattle.records.proofs.EarlyAnswers.{fails, passes}
+use Rattle.readings.proofs.EarlyAnswers.{fails, passes}
 use Rattle.readings.specs.Ranges.{totalSeconds}
 use Rattle.parts.specs.Values.{point, segment, pointSize, segmentSize}
 use Rattle.parts.proofs.Places.{enough, summed}
