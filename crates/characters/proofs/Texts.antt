@@ -12,7 +12,8 @@ use native.Mathlib.Numerals.{add-one}
 use Rattle.output.specs.Splice.{spliced}
 use Rattle.output.proofs.Splice.{length-spliced, spliced-none, spliced-more}
 use Rattle.characters.specs.Numbers.{decimal}
-use Rattle.characters.specs.Writing.{joined, Room, Wrote}
+use Rattle.output.specs.Bytes.{joined}
+use Rattle.characters.specs.Writing.{Room, Wrote}
 use Rattle.characters.proofs.Decimals.{decimal-few, decimal-many}
 
 -- of two texts, whichever it is

@@ -1,14 +1,9 @@
--- Texts one after another, room for a text, and a buffer into which a text was written.
-use Prim.Native.Nat.{ℕ, zero, suc, _+_, _≤_}
+-- Room for a text, and a buffer into which a text was written.
+use Prim.Native.Nat.{ℕ, _+_, _≤_}
 use mathlib.Core.Path.{_≡_}
-use mathlib.Core.List.{List, [], _++_}
+use mathlib.Core.List.{List}
 use lib.ListN.{length}
 use Rattle.output.specs.Splice.{spliced}
-
--- the first n of some texts, one after another
-unfoldable pub joined : (ℕ → List ℕ) → ℕ → List ℕ
-joined text zero = []
-joined text (suc n) = joined text n ++ text n
 
 -- a buffer has room for a text at a place
 pub record Room (out : List ℕ) (at : ℕ) (text : List ℕ) : Type 0 where

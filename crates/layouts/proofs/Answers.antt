@@ -8,59 +8,60 @@ use borrow.Author.Tests.{le-leb, lt-leb, leb-true}
 use lib.Dec.{leb}
 use lib.ListN.{length, take, replicate, length-append}
 use lib.Seq.{take-at}
+use Rattle.arrays.specs.Arrays.{filledTo}
 use Rattle.output.specs.declared.Answer.{Answer}
 use Rattle.output.specs.declared.Answer.the-variants.{Done, Refused}
 use Rattle.output.specs.Splice.{spliced}
 use Rattle.traverse.specs.declared.Layout.{Layout}
-use Rattle.traverse.specs.Layout.{padded, Holds}
-use Rattle.layouts.specs.Outcomes.{ifRoom, lentOutcome, outcome, distanceBytes, answerOf, outOf, Answered}
+use Rattle.traverse.specs.Layout.{mostDistances, IsLayout}
+use Rattle.layouts.specs.Outcomes.{ifRoom, distanceSize, lentOutcome, layoutOutcome, distanceBytes, layoutAnswer, layoutOut, Answered}
 
 -- n distances and an output that is too short for them
-pub refused-short : (ds old : List ℕ) {n : ℕ} → length ds ≡ n → length old < 4 * n → Answered (lentOutcome ds (length old)) old old (Refused 9 0)
-unfolding lentOutcome answerOf outOf
+pub refused-short : (ds old : List ℕ) {n : ℕ} → length ds ≡ n → length old < distanceSize * n → Answered (lentOutcome ds (length old)) old old (Refused 9 0)
+unfolding lentOutcome layoutAnswer layoutOut
 refused-short ds old {n} e short =
-    rw (e, lt-leb (4 * n) (length old) short) (record { answer = refl; out = refl })
+    rw (e, lt-leb (distanceSize * n) (length old) short) (record { answer = refl; out = refl })
 
 -- n distances written
-pub laid-out : (ds old : List ℕ) {new : List ℕ} {n : ℕ} → length ds ≡ n → 4 * n ≤ length old → new ≡ spliced old 0 (distanceBytes ds) → Answered (lentOutcome ds (length old)) old new (Done (4 * n))
-unfolding lentOutcome answerOf outOf
+pub laid-out : (ds old : List ℕ) {new : List ℕ} {n : ℕ} → length ds ≡ n → distanceSize * n ≤ length old → new ≡ spliced old 0 (distanceBytes ds) → Answered (lentOutcome ds (length old)) old new (Done (distanceSize * n))
+unfolding lentOutcome layoutAnswer layoutOut
 laid-out ds old {new} {n} e room written =
-    rw (e, le-leb (4 * n) (length old) room) (record { answer = ap (λ m. Done (4 * m)) (sym e); out = written })
+    rw (e, le-leb (distanceSize * n) (length old) room) (record { answer = ap (λ m. Done (distanceSize * m)) (sym e); out = written })
 
 -- the layout is outside its ranges, and inside them
-pub refused-outside : {fits : Bool} (ds old : List ℕ) (room : ℕ) → fits ≡ false → Answered (outcome fits ds room) old old (Refused 11 0)
-unfolding outcome answerOf outOf
+pub refused-outside : {fits : Bool} (ds old : List ℕ) (room : ℕ) → fits ≡ false → Answered (layoutOutcome fits ds room) old old (Refused 11 0)
+unfolding layoutOutcome layoutAnswer layoutOut
 refused-outside ds old room e = rw e (record { answer = refl; out = refl })
 
-pub inside : {fits : Bool} (ds : List ℕ) (room : ℕ) {old new : List ℕ} {r : Answer} → fits ≡ true → Answered (lentOutcome ds room) old new r → Answered (outcome fits ds room) old new r
-unfolding outcome
+pub inside : {fits : Bool} (ds : List ℕ) (room : ℕ) {old new : List ℕ} {r : Answer} → fits ≡ true → Answered (lentOutcome ds room) old new r → Answered (layoutOutcome fits ds room) old new r
+unfolding layoutOutcome
 inside ds room e a = rw e a
 
 -- A call that is done wrote no more than the output holds
-room-within : (enough : Bool) (ds : List ℕ) (room : ℕ) {r : Answer} {bytes : ℕ} → leb (4 * length ds) room ≡ enough → r ≡ answerOf (ifRoom enough ds) → r ≡ Done bytes → bytes ≤ room
-unfolding answerOf
+room-within : (enough : Bool) (ds : List ℕ) (room : ℕ) {r : Answer} {bytes : ℕ} → leb (distanceSize * length ds) room ≡ enough → r ≡ layoutAnswer (ifRoom enough ds) → r ≡ Done bytes → bytes ≤ room
+unfolding layoutAnswer
 room-within true ds room {bytes = bytes} t a e =
-    let written : bytes ≡ 4 * length ds = cc in
-    omega (arith, leb-true (4 * length ds) room t)
+    let written : bytes ≡ distanceSize * length ds = cc in
+    omega (arith, leb-true (distanceSize * length ds) room t)
 room-within false ds room t a e = let z : _≡_ {A = ℕ} 0 1 = cc in absurd (omega arith)
 
-pub done-within : (fits : Bool) (ds : List ℕ) (room : ℕ) {old new : List ℕ} {r : Answer} {bytes : ℕ} → Answered (outcome fits ds room) old new r → r ≡ Done bytes → bytes ≤ room
-unfolding outcome lentOutcome answerOf
-done-within true ds room a e = room-within (leb (4 * length ds) room) ds room refl (a .answer) e
+pub done-within : (fits : Bool) (ds : List ℕ) (room : ℕ) {old new : List ℕ} {r : Answer} {bytes : ℕ} → Answered (layoutOutcome fits ds room) old new r → r ≡ Done bytes → bytes ≤ room
+unfolding layoutOutcome lentOutcome layoutAnswer
+done-within true ds room a e = room-within (leb (distanceSize * length ds) room) ds room refl (a .answer) e
 done-within false ds room a e =
     let refusal = a .answer in
     let z : _≡_ {A = ℕ} 0 1 = cc in
     absurd (omega arith)
 
--- an array of 98 that holds a list's distances has no more of them than it holds, and they are its front
-module _ {ds : List ℕ} {l : Layout} (h : Holds ds l) (long : length (l .distances) ≡ 98) where
-  pub held-few : l .count ≤ 98
-  unfolding padded
+-- an array that holds a list's distances has no more of them than it holds, and they are its front
+module _ {ds : List ℕ} {l : Layout} (h : IsLayout ds l) (long : length (l .distances) ≡ mostDistances) where
+  pub held-few : l .count ≤ mostDistances
+  unfolding filledTo
   held-few =
       let all = ap length (sym (h .distances)) ∙ long in
-      let size : length ds ≤ 98 = omega (arith, length-append ds (replicate (98 - length ds) 0), all) in
+      let size : length ds ≤ mostDistances = omega (arith, length-append ds (replicate (mostDistances - length ds) 0), all) in
       omega (arith, h .count)
 
   pub held-front : take (l .count) (l .distances) ≡ ds
-  unfolding padded
-  held-front = rw (h .distances) (take-at ds (replicate (98 - length ds) 0) (l .count) (sym (h .count)))
+  unfolding filledTo
+  held-front = rw (h .distances) (take-at ds (replicate (mostDistances - length ds) 0) (l .count) (sym (h .count)))

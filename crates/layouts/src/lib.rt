@@ -4,6 +4,7 @@
 use output::Answer;
 use output::put_number;
 use traverse::Layout;
+use traverse::MOST_DISTANCES;
 use traverse::rectangle;
 use traverse::rectangle_fits;
 use traverse::round;
@@ -11,11 +12,12 @@ use traverse::round_fits;
 ghost use mathlib.Core.Path.{_≡_};
 ghost use Prim.Native.Nat.{_*_, _≤_};
 ghost use lib.ListN.{length, take};
+ghost use Rattle.traverse.specs.Layout.{mostDistances};
 ghost use Rattle.output.specs.Splice.{spliced};
-ghost use Rattle.layouts.specs.Outcomes.{Answered, lentOutcome, roundOutcome, rectangleOutcome, distanceBytes};
+ghost use Rattle.layouts.specs.Outcomes.{Answered, lentOutcome, roundOutcome, rectangleOutcome, distanceSize, distanceBytes};
 
 // Bytes of a distance in the output.
-const WIDTH: usize = 4;
+const DISTANCE_SIZE: usize = 4;
 
 // The refusals of a layout: outside its ranges, and a lent output that is too short. Both are at place 0.
 const OUTSIDE: u32 = 11;
@@ -23,29 +25,29 @@ const OUTSIDE: u32 = 11;
 const TOO_SHORT: u32 = 9;
 
 // The first `count` distances, one after another from the front.
-fn put_distances(distances: [u32; 98], count: usize, out: &mut [u8])
-    requires { ⌜ (count ≤ 98) × (4 * count ≤ length (now out)) ⌝ }
+fn put_distances(distances: [u32; MOST_DISTANCES], count: usize, out: &mut [u8])
+    requires { ⌜ (count ≤ mostDistances) × (distanceSize * count ≤ length (now out)) ⌝ }
     ensures { λ _. ⌜ now (out .exit) ≡ spliced (now (out .entry)) 0 (distanceBytes (take count distances)) ⌝ }
 {
     let mut i: usize = 0;
     while i < count {
-        put_number(out, WIDTH * i, WIDTH, distances[i] as u64);
+        put_number(out, DISTANCE_SIZE * i, DISTANCE_SIZE, distances[i] as u64);
         i += 1;
     }
 }
 
 // A layout written, where the output has room for it.
 fn put_layout(layout: Layout, out: &mut [u8]) -> Answer
-    requires { ⌜ layout .count ≤ 98 ⌝ }
+    requires { ⌜ layout .count ≤ mostDistances ⌝ }
     ensures { λ r. ⌜ Answered (lentOutcome (take (layout .count) (layout .distances)) (length (now (out .entry)))) (now (out .entry)) (now (out .exit)) r ⌝ }
 {
     let count = layout.count;
     let distances = layout.distances;
-    if out.len() < WIDTH * count {
+    if out.len() < DISTANCE_SIZE * count {
         return Answer::Refused(TOO_SHORT, 0);
     }
     put_distances(distances, count, out);
-    Answer::Done((WIDTH * count) as u32)
+    Answer::Done((DISTANCE_SIZE * count) as u32)
 }
 
 // The layout of a round stack: points on the diameter, diameter in 0.1 in, nozzle in 0.001 in.

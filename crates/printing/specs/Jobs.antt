@@ -7,7 +7,7 @@ use Rattle.job.specs.Places.{runCountOf}
 use Rattle.job.specs.Troubles.{jobTrouble}
 use Rattle.reduction.specs.Reducing.{reducedRun}
 use Rattle.characters.specs.Numbers.{decimal}
-use Rattle.characters.specs.Writing.{joined}
+use Rattle.output.specs.Bytes.{joined}
 use Rattle.text.specs.Sheets.{space, newline}
 use Rattle.text.specs.Runs.{runText}
 

@@ -8,7 +8,7 @@ use Rattle.findings.specs.declared.Finding.{Finding}
 use Rattle.findings.specs.Listing.{noFinding}
 use Rattle.reduction.specs.declared.Reduced.{Reduced}
 use Rattle.characters.specs.Numbers.{decimal}
-use Rattle.characters.specs.Writing.{joined}
+use Rattle.output.specs.Bytes.{joined}
 use Rattle.text.specs.Sheets.{space, newline, sheetText}
 
 -- "FAULT " for class 1, "NOTE " for a note

@@ -8,7 +8,7 @@ use Rattle.lines.specs.declared.Line.{Line}
 use Rattle.lines.specs.declared.Line.the-variants.{Present, Absent}
 use Rattle.lines.specs.declared.Sheet.{Sheet}
 use Rattle.characters.specs.Numbers.{decimal, signedDecimal}
-use Rattle.characters.specs.Writing.{joined}
+use Rattle.output.specs.Bytes.{joined}
 
 -- a space, a dash, the end of a line
 abbrev pub space : List ℕ

@@ -1,23 +1,25 @@
 -- The loop writes one distance a turn, just after those before it.
-use Prim.Native.Nat.{_-_}
-use mathlib.Core.Path.{_≡_}
+use Prim.Native.Nat.{_+_, _-_, _*_, _≤_}
+use mathlib.Core.Path.{_≡_, _∙_, ap}
 use native.Mathlib.Omega.{arith}
 use borrow.Author.Needs.{needs}
 use lib.ListN.{length}
-use Rattle.layouts.proofs.Distances.{Listed, listed-none, listed-length, listed-more, listed-all}
+use Rattle.output.specs.Splice.{spliced}
+use Rattle.output.proofs.Records.{Put, put-none, put-length, put-more, put-all}
+use Rattle.traverse.specs.Layout.{mostDistances}
+use Rattle.layouts.specs.Outcomes.{distanceSize}
+use Rattle.layouts.proofs.Distances.{distanceAt, distance-size, front-bytes}
 use Rattle.layouts.proofs.put_distances.Statement.{statement}
 use Rattle.layouts.proofs.put_distances.Tie as tie
 
 abbrev Inv-loop : tie.InvT-loop
-Inv-loop count out₀ distances i₀ out i = Listed out₀ distances count out i
+Inv-loop count out₀ distances i₀ out i = (i ≤ count) × Put (distanceAt distances) distanceSize out₀ out i
 
 abbrev μ-loop : tie.MeasureT-loop
 μ-loop count out₀ distances i₀ out i = count - i
 
 loop-holds : tie.Need-loop-holds Inv-loop μ-loop
-loop-holds c =
-    let long : length (c .before .args .t1) ≡ 98 = search needs in
-    listed-none _ _ _ (omega (arith, c .before .pre .0)) (c .before .pre .1)
+loop-holds c = (omega arith, put-none _ (distance-size (c .before .args .t1)))
 
 mul-put-number : tie.Need-mul-put-number Inv-loop μ-loop
 mul-put-number c = omega arith
@@ -33,8 +35,8 @@ cast-put-number c = search needs
 
 put-number-requires : tie.Need-put-number-requires Inv-loop μ-loop
 put-number-requires c κs =
-    let l = c .before .before .loop .inv in
-    omega (arith, listed-length l, l .room, c .before .loop-test .taken)
+    let (past, put) = c .before .before .loop .inv in
+    omega (arith, put-length put (omega arith))
 
 add-i : tie.Need-add-i Inv-loop μ-loop
 add-i c = omega arith
@@ -45,13 +47,17 @@ loop-less c = omega arith
 loop-again : tie.Need-loop-again Inv-loop μ-loop
 loop-again c =
     let turn = c .before .before .before .before in
-    listed-more (turn .before .loop .inv) (turn .loop-test .taken) (c .before .before .put-number .ensures)
+    (omega arith, put-more (turn .before .loop .inv .1) (omega arith) (c .before .before .put-number .ensures))
 
 same-length : tie.Need-same-length Inv-loop μ-loop
-same-length c = listed-length (c .before .loop .inv)
+same-length c = put-length (c .before .loop .inv .1) (omega arith)
 
 returns : tie.Need-returns Inv-loop μ-loop
-returns c = listed-all (c .before .loop .inv) (c .loop-test .left)
+returns c =
+    let (past, put) = c .before .loop .inv in
+    let start = c .before .before .before in
+    let long : length (start .args .t1) ≡ mostDistances = search needs in
+    put-all put past (c .loop-test .left) ∙ ap (spliced (start .args .out .now) 0) (front-bytes (start .args .t1) (start .args .count) (omega (arith, start .pre)))
 
 pub put-distances-spec : {M : Type 1} → statement M
 put-distances-spec =

@@ -4,6 +4,7 @@ use mathlib.Core.Path.{_≡_}
 use native.Mathlib.Omega.{arith}
 use lib.ListN.{length, take}
 use lib.Seq.{length-take-le}
+use Rattle.traverse.specs.Layout.{mostDistances}
 use Rattle.layouts.proofs.Answers.{refused-short, laid-out}
 use Rattle.layouts.proofs.put_layout.Statement.{statement}
 use Rattle.layouts.proofs.put_layout.Tie as tie
@@ -11,7 +12,7 @@ use Rattle.layouts.proofs.put_layout.Tie as tie
 -- the array has as many distances as are counted
 counted : (c : tie.Start) → length (take (c .args .layout .count) (c .args .layout .distances)) ≡ c .args .layout .count
 counted c =
-    let long : length (c .args .layout .distances) ≡ 98 = search needs in
+    let long : length (c .args .layout .distances) ≡ mostDistances = search needs in
     length-take-le _ _ (omega (arith, c .pre))
 
 mul-if1 : tie.Need-mul-if1

@@ -3,6 +3,7 @@ use borrow.Author.Needs.{needs}
 use borrow.Author.Tests.{not-true, not-false}
 use mathlib.Core.Path.{_≡_, sym, _∙_}
 use lib.ListN.{length}
+use Rattle.traverse.specs.Layout.{mostDistances}
 use Rattle.layouts.specs.Outcomes.{roundOutcome}
 use Rattle.layouts.proofs.Answers.{refused-outside, inside, held-few, held-front}
 use Rattle.layouts.proofs.round_layout.Statement.{statement}
@@ -21,7 +22,7 @@ round-requires c κs = sym (c .before .round-fits .ensures) ∙ not-false _ (c .
 put-layout-requires : tie.Need-put-layout-requires
 put-layout-requires c κs =
     let laid = c .before .round in
-    let long : length (laid .result .distances) ≡ 98 = search needs in
+    let long : length (laid .result .distances) ≡ mostDistances = search needs in
     held-few (laid .ensures) long
 
 same-length : tie.Need-same-length
@@ -32,7 +33,7 @@ unfolding roundOutcome
 returns-2 c =
     let past = c .before .before .before .before in
     let laid = past .round in
-    let long : length (laid .result .distances) ≡ 98 = search needs in
+    let long : length (laid .result .distances) ≡ mostDistances = search needs in
     let fits = sym (past .before .before .round-fits .ensures) ∙ not-false _ (past .before .if1 .left) in
     inside _ _ fits (rw (held-front (laid .ensures) long) at (c .before .before .put-layout .ensures))
 

@@ -3,7 +3,8 @@ use Prim.Native.Nat.{_-_, _≤_}
 use native.Mathlib.Omega.{arith}
 use Rattle.reduction.specs.Reducing.{ClearRun, reducedRun}
 use Rattle.reduction.proofs.ClearJobs.{count-of-runs, few-runs, found-few}
-use Rattle.characters.specs.Writing.{joined, Room, Wrote}
+use Rattle.output.specs.Bytes.{joined}
+use Rattle.characters.specs.Writing.{Room, Wrote}
 use Rattle.characters.proofs.Texts.{joined-none, joined-room, joined-more, joined-all}
 use Rattle.text.specs.Runs.{runText}
 use Rattle.printing.specs.Jobs.{runsText}

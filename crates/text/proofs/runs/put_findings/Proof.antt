@@ -3,7 +3,8 @@ use Prim.Native.Nat.{_-_, _≤_}
 use native.Mathlib.Omega.{arith}
 use lib.ListN.{getD}
 use Rattle.findings.specs.Listing.{noFinding}
-use Rattle.characters.specs.Writing.{joined, Room, Wrote}
+use Rattle.output.specs.Bytes.{joined}
+use Rattle.characters.specs.Writing.{Room, Wrote}
 use Rattle.characters.proofs.Texts.{joined-none, joined-room, joined-more, joined-all}
 use Rattle.text.specs.Runs.{findingText, findingsText}
 use Rattle.text.proofs.runs.put_findings.Statement.{statement}

@@ -1,7 +1,8 @@
 -- The loop writes one line a turn.
 use Prim.Native.Nat.{_-_, _≤_}
 use native.Mathlib.Omega.{arith}
-use Rattle.characters.specs.Writing.{joined, Room, Wrote}
+use Rattle.output.specs.Bytes.{joined}
+use Rattle.characters.specs.Writing.{Room, Wrote}
 use Rattle.characters.proofs.Texts.{joined-none, joined-room, joined-more, joined-all}
 use Rattle.text.specs.Sheets.{lineAt, sheetText}
 use Rattle.text.proofs.sheets.put_sheet.Statement.{statement}
