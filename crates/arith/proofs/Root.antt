@@ -11,13 +11,7 @@ use lib.Dec.{leb, eqb}
 use lib.Pow.{pow-add, pow-mono}
 use Rattle.arith.specs.Root.{grown, floorRoot, nearestRoot, IsRoot, bitLength, firstBound, Largest, NearestRootOf}
 
--- the square of a sum
-square-add : (a b : ℕ) → (a + b) * (a + b) ≡ a * a + 2 * (a * b) + b * b
-square-add a b =
-    let e : (a + b) * (a + b) ≡ a * a + b * a + (a * b + b * b) = mul-add (a + b) a b ∙ rw (add-mul a b a, add-mul a b b) in
-    let s : b * a ≡ a * b = mul-comm b a in
-    omega arith
-
+-- the square of a double
 square-double : (a : ℕ) → 2 * a * (2 * a) ≡ 4 * (a * a)
 square-double a =
     let e : 2 * a * (2 * a) ≡ 2 * (a * (2 * a)) = mul-assoc 2 a (2 * a) in

@@ -16,11 +16,6 @@ use Rattle.output.specs.Bytes.{joined}
 use Rattle.characters.specs.Writing.{Room, Wrote}
 use Rattle.characters.proofs.Decimals.{decimal-few, decimal-many}
 
--- of two texts, whichever it is
-pub either-short : (test : Bool) (a b : List ℕ) (n : ℕ) → length a ≤ n → length b ≤ n → length (cond test a b) ≤ n
-either-short true a b n h k = h
-either-short false a b n h k = k
-
 -- nothing written yet
 pub wrote-none : (old : List ℕ) (at : ℕ) → Wrote old at [] old at
 wrote-none old at = record { is = spliced-none old at; after = omega arith; kept = refl }

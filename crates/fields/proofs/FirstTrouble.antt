@@ -169,12 +169,6 @@ each-clear f (suc n) e i h =
     (λ less. each-clear f n (clear-left (upTo f n) (f n) e) i less)
     (eq-or-lt-of-le (le-of-suc-le-suc h))
 
--- clear each: clear as a whole
-pub all-clear : (f : ℕ → Trouble) (n : ℕ) → ((i : ℕ) → i < n → f i ≡ Clear) → upTo f n ≡ Clear
-unfolding upTo
-all-clear f zero h = refl
-all-clear f (suc n) h = first-clear (f n) (all-clear f n (λ i l. h i (lt-trans l (lt-suc-self n)))) ∙ h n (lt-suc-self n)
-
 pub up-told : (P : ℕ → ℕ → Bool) (f : ℕ → Trouble) (n : ℕ) → ((i : ℕ) → told P (f i) ≡ true) → told P (upTo f n) ≡ true
 unfolding upTo
 up-told P f zero h = refl

@@ -37,22 +37,6 @@ pub inside : {fits : Bool} (ds : List ℕ) (room : ℕ) {old new : List ℕ} {r 
 unfolding layoutOutcome
 inside ds room e a = rw e a
 
--- A call that is done wrote no more than the output holds
-room-within : (enough : Bool) (ds : List ℕ) (room : ℕ) {r : Answer} {bytes : ℕ} → leb (distanceSize * length ds) room ≡ enough → r ≡ layoutAnswer (ifRoom enough ds) → r ≡ Done bytes → bytes ≤ room
-unfolding layoutAnswer
-room-within true ds room {bytes = bytes} t a e =
-    let written : bytes ≡ distanceSize * length ds = cc in
-    omega (arith, leb-true (distanceSize * length ds) room t)
-room-within false ds room t a e = let z : _≡_ {A = ℕ} 0 1 = cc in absurd (omega arith)
-
-pub done-within : (fits : Bool) (ds : List ℕ) (room : ℕ) {old new : List ℕ} {r : Answer} {bytes : ℕ} → Answered (layoutOutcome fits ds room) old new r → r ≡ Done bytes → bytes ≤ room
-unfolding layoutOutcome lentOutcome layoutAnswer
-done-within true ds room a e = room-within (leb (distanceSize * length ds) room) ds room refl (a .answer) e
-done-within false ds room a e =
-    let refusal = a .answer in
-    let z : _≡_ {A = ℕ} 0 1 = cc in
-    absurd (omega arith)
-
 -- an array that holds a list's distances has no more of them than it holds, and they are its front
 module _ {ds : List ℕ} {l : Layout} (h : IsLayout ds l) (long : length (l .distances) ≡ mostDistances) where
   pub held-few : l .count ≤ mostDistances

@@ -14,7 +14,7 @@ use Rattle.job.specs.Places.{runCountOf, runOf}
 use Rattle.job.specs.Troubles.{jobTrouble}
 use Rattle.reduction.specs.declared.Reduced.{Reduced}
 use Rattle.reduction.specs.declared.Which.{Which}
-use Rattle.reduction.specs.declared.Which.the-variants.{Run as RunAt, Nothing}
+use Rattle.reduction.specs.declared.Which.the-variants.{Index, NoRun}
 use Rattle.reduction.specs.Reducing.{reducedRun, runNamed}
 use Rattle.leverbonnet.specs.Calls.{refused, reduced, handed, ofRun, ofTrouble, outcome}
 use Rattle.leverbonnet.specs.Demands.{ByTable, reader, noRun, tooShort}
@@ -22,27 +22,27 @@ use Rattle.leverbonnet.proofs.Outcomes.{found-inside}
 
 -- the run that is found has the number, and where none is found none has
 module _ (s : List ℕ) (run : ℕ) where
-  named-step : (n : ℕ) (test : Bool) → eqb (runOf s n .number) run ≡ test → {k : ℕ} → cond test (RunAt n) (runNamed s run n) ≡ RunAt k → (runNamed s run n ≡ RunAt k → runOf s k .number ≡ run) → runOf s k .number ≡ run
-  named-step n true e {k} f before = let same : n ≡ k = cc in ap (λ i. runOf s i .number) (sym same) ∙ eqb-true _ _ e
+  named-step : (n : ℕ) (test : Bool) → eqb (runOf s n .header .number) run ≡ test → {k : ℕ} → cond test (Index n) (runNamed (runOf s) run n) ≡ Index k → (runNamed (runOf s) run n ≡ Index k → runOf s k .header .number ≡ run) → runOf s k .header .number ≡ run
+  named-step n true e {k} f before = let same : n ≡ k = cc in ap (λ i. runOf s i .header .number) (sym same) ∙ eqb-true _ _ e
   named-step n false e f before = before f
 
-  pub named : (n : ℕ) {k : ℕ} → runNamed s run n ≡ RunAt k → runOf s k .number ≡ run
+  pub named : (n : ℕ) {k : ℕ} → runNamed (runOf s) run n ≡ Index k → runOf s k .header .number ≡ run
   unfolding runNamed
   named zero e = let never : _≡_ {A = ℕ} 0 1 = cc in absurd (omega arith)
-  named (suc n) e = named-step n (eqb (runOf s n .number) run) refl e (named n)
+  named (suc n) e = named-step n (eqb (runOf s n .header .number) run) refl e (named n)
 
-  none-step : (n : ℕ) (test : Bool) → eqb (runOf s n .number) run ≡ test → cond test (RunAt n) (runNamed s run n) ≡ Nothing → (runNamed s run n ≡ Nothing → (k : ℕ) → k < n → runOf s k .number ≡ run → ⊥) → (k : ℕ) → k < suc n → runOf s k .number ≡ run → ⊥
+  none-step : (n : ℕ) (test : Bool) → eqb (runOf s n .header .number) run ≡ test → cond test (Index n) (runNamed (runOf s) run n) ≡ NoRun → (runNamed (runOf s) run n ≡ NoRun → (k : ℕ) → k < n → runOf s k .header .number ≡ run → ⊥) → (k : ℕ) → k < suc n → runOf s k .header .number ≡ run → ⊥
   none-step n true e f before k inside same = let never : _≡_ {A = ℕ} 0 1 = cc in absurd (omega arith)
   none-step n false e f before k inside same = last (ℕ-discrete k n)
     where
       last : Dec (k ≡ n) → ⊥
-      last (yes q) = eqb-false _ _ e (ap (λ i. runOf s i .number) (sym q) ∙ same)
+      last (yes q) = eqb-false _ _ e (ap (λ i. runOf s i .header .number) (sym q) ∙ same)
       last (no q) = before f k (omega (arith, q)) same
 
-  pub none-named : (n : ℕ) → runNamed s run n ≡ Nothing → (k : ℕ) → k < n → runOf s k .number ≡ run → ⊥
+  pub none-named : (n : ℕ) → runNamed (runOf s) run n ≡ NoRun → (k : ℕ) → k < n → runOf s k .header .number ≡ run → ⊥
   unfolding runNamed
   none-named zero e k inside same = absurd (omega (arith, inside))
-  none-named (suc n) e k inside same = none-step n (eqb (runOf s n .number) run) refl e (none-named n) k inside same
+  none-named (suc n) e k inside same = none-step n (eqb (runOf s n .header .number) run) refl e (none-named n) k inside same
 
 -- a run that is not handed over had an output too short
 pub data Short (number place : ℕ) (a b : Bool) : Type 0 where
@@ -55,7 +55,7 @@ short false true r e = findings (cc) (cc) refl
 short false false r e = let never : _≡_ {A = ℕ} 0 1 = cc in absurd (omega arith)
 
 module _ (s : List ℕ) (run lines′ findings′ : ℕ) where
-  by-room : {number place : ℕ} (k : ℕ) → jobTrouble s ≡ Clear → runNamed s run (runCountOf s) ≡ RunAt k → Short number place (ltb lines′ 180) (ltb findings′ (4 * reducedRun s k .findings .count)) → ByTable s run lines′ findings′ number place
+  by-room : {number place : ℕ} (k : ℕ) → jobTrouble s ≡ Clear → runNamed (runOf s) run (runCountOf s) ≡ Index k → Short number place (ltb lines′ 180) (ltb findings′ (4 * reducedRun s k .findings .count)) → ByTable s run lines′ findings′ number place
   by-room {number} {place} k clear e (lines en ep t) =
       subst₂ (λ (n p : ℕ). ByTable s run lines′ findings′ n p) en ep
       (tooShort k clear (found-inside s run (runCountOf s) e) (named s run (runCountOf s) e) (inl (ltb-true _ _ t)))
@@ -63,20 +63,20 @@ module _ (s : List ℕ) (run lines′ findings′ : ℕ) where
       subst₂ (λ (n p : ℕ). ByTable s run lines′ findings′ n p) en ep
       (tooShort k clear (found-inside s run (runCountOf s) e) (named s run (runCountOf s) e) (inr (ltb-true _ _ t)))
 
-  by-run : {number place : ℕ} (which : Which) → jobTrouble s ≡ Clear → runNamed s run (runCountOf s) ≡ which → ofRun s which lines′ findings′ ≡ refused number place → ByTable s run lines′ findings′ number place
+  by-run : {number place : ℕ} (which : Which) → jobTrouble s ≡ Clear → runNamed (runOf s) run (runCountOf s) ≡ which → ofRun s which lines′ findings′ ≡ refused number place → ByTable s run lines′ findings′ number place
   unfolding handed
-  by-run {number} {place} Nothing clear e o =
+  by-run {number} {place} NoRun clear e o =
       let ten : 10 ≡ number = cc in
       let at : 0 ≡ place = cc in
       subst₂ (λ (n p : ℕ). ByTable s run lines′ findings′ n p) ten at (noRun clear (none-named s run (runCountOf s) e))
-  by-run (RunAt k) clear e o = by-room k clear e (short (ltb lines′ 180) (ltb findings′ (4 * reducedRun s k .findings .count)) (reducedRun s k) o)
+  by-run (Index k) clear e o = by-room k clear e (short (ltb lines′ 180) (ltb findings′ (4 * reducedRun s k .findings .count)) (reducedRun s k) o)
 
   by-trouble : {number place : ℕ} (t : Trouble) → jobTrouble s ≡ t → ofTrouble t s run lines′ findings′ ≡ refused number place → ByTable s run lines′ findings′ number place
   by-trouble {number} {place} (At n p) e o =
       let same-number : n ≡ number = cc in
       let same-place : p ≡ place = cc in
       subst₂ (λ (n p : ℕ). ByTable s run lines′ findings′ n p) same-number same-place (reader e)
-  by-trouble Clear e o = by-run (runNamed s run (runCountOf s)) e refl o
+  by-trouble Clear e o = by-run (runNamed (runOf s) run (runCountOf s)) e refl o
 
   -- A refusal is one of the table's, with the table's number and place
   pub refused-by-table : {number place : ℕ} → outcome s run lines′ findings′ ≡ refused number place → ByTable s run lines′ findings′ number place

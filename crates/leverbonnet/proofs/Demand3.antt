@@ -19,7 +19,7 @@ use Rattle.job.specs.Places.{certificateCountOf, runCountOf, runOf}
 use Rattle.job.specs.Troubles.{jobTrouble}
 use Rattle.job.proofs.ClearJobs.{unique, rising}
 use Rattle.reduction.specs.declared.Which.{Which}
-use Rattle.reduction.specs.declared.Which.the-variants.{Run as RunAt, Nothing}
+use Rattle.reduction.specs.declared.Which.the-variants.{Index, NoRun}
 use Rattle.reduction.specs.Reducing.{worked, chosenIn, reducedRun, runNamed}
 use Rattle.output.specs.Answers.{packed}
 use Rattle.leverbonnet.specs.Calls.{handed, ofRun, ofTrouble, outcome, answerOf, linesAfter, findingsAfter, Reduces}
@@ -57,7 +57,7 @@ same-reduced s t run same =
     ap (worked (runOf s (same .index))) chosen ∙ rw (same .record′)
 
 -- a job that is read has one run of a number
-one-of-number : (s : List ℕ) → jobTrouble s ≡ Clear → (j k : ℕ) → j < runCountOf s → k < runCountOf s → runOf s j .number ≡ runOf s k .number → j ≡ k
+one-of-number : (s : List ℕ) → jobTrouble s ≡ Clear → (j k : ℕ) → j < runCountOf s → k < runCountOf s → runOf s j .header .number ≡ runOf s k .header .number → j ≡ k
 one-of-number s clear j k hj hk same = order (decLt j k) (decLt k j)
   where
     order : Dec (j < k) → Dec (k < j) → j ≡ k
@@ -66,15 +66,15 @@ one-of-number s clear j k hj hk same = order (decLt j k) (decLt k j)
     order (no f) (no g) = omega (arith, f, g)
 
 -- so the run of that number is the one found
-found-by-number : (s : List ℕ) (run k : ℕ) → jobTrouble s ≡ Clear → k < runCountOf s → runOf s k .number ≡ run → runNamed s run (runCountOf s) ≡ RunAt k
-found-by-number s run k clear inside number = go (runNamed s run (runCountOf s)) refl
+found-by-number : (s : List ℕ) (run k : ℕ) → jobTrouble s ≡ Clear → k < runCountOf s → runOf s k .header .number ≡ run → runNamed (runOf s) run (runCountOf s) ≡ Index k
+found-by-number s run k clear inside number = go (runNamed (runOf s) run (runCountOf s)) refl
   where
-    go : (which : Which) → runNamed s run (runCountOf s) ≡ which → runNamed s run (runCountOf s) ≡ RunAt k
-    go Nothing e = absurd (none-named s run (runCountOf s) e k inside number)
-    go (RunAt j) e = e ∙ ap RunAt (one-of-number s clear j k (found-inside s run (runCountOf s) e) inside (named s run (runCountOf s) e ∙ sym number))
+    go : (which : Which) → runNamed (runOf s) run (runCountOf s) ≡ which → runNamed (runOf s) run (runCountOf s) ≡ Index k
+    go NoRun e = absurd (none-named s run (runCountOf s) e k inside number)
+    go (Index j) e = e ∙ ap Index (one-of-number s clear j k (found-inside s run (runCountOf s) e) inside (named s run (runCountOf s) e ∙ sym number))
 
 -- and the outcome is that run's
-outcome-of-run : (s : List ℕ) (run k lines findings : ℕ) → jobTrouble s ≡ Clear → k < runCountOf s → runOf s k .number ≡ run → outcome s run lines findings ≡ handed (reducedRun s k) lines findings
+outcome-of-run : (s : List ℕ) (run k lines findings : ℕ) → jobTrouble s ≡ Clear → k < runCountOf s → runOf s k .header .number ≡ run → outcome s run lines findings ≡ handed (reducedRun s k) lines findings
 unfolding outcome
 outcome-of-run s run k lines findings clear inside number =
     ap (λ t. ofTrouble t s run lines findings) clear

@@ -15,7 +15,7 @@ use Rattle.job.specs.Reading.{readJob}
 use Rattle.parts.specs.Values.{runAt}
 use Rattle.reduction.specs.declared.Reduced.{Reduced}
 use Rattle.reduction.specs.declared.Which.{Which}
-use Rattle.reduction.specs.declared.Which.the-variants.{Run as RunAt, Nothing}
+use Rattle.reduction.specs.declared.Which.the-variants.{Index, NoRun}
 use Rattle.reduction.specs.Reducing.{ClearJob, reducedRun, runNamed}
 use Rattle.reduction.proofs.ClearJobs.{count-of-runs, start-of, read-refused}
 use Rattle.output.specs.declared.Answer.{Answer}
@@ -51,16 +51,16 @@ pub refused-by-reader : (s : List ℕ) {j : Job} {n p : ℕ} (run lines findings
 unfolding outcome
 refused-by-reader s run lines findings e t = rw (read-refused s e t)
 
-pub no-run : (s : List ℕ) (j : Job) {which : Which} (run lines findings : ℕ) → ClearJob s j → which ≡ runNamed s run (j .runs) → which ≡ Nothing → outcome s run lines findings ≡ refused 10 0
+pub no-run : (s : List ℕ) (j : Job) {which : Which} (run lines findings : ℕ) → ClearJob s j → which ≡ runNamed (runOf s) run (j .runs) → which ≡ NoRun → outcome s run lines findings ≡ refused 10 0
 unfolding outcome
 no-run s j run lines findings ok ew en =
-    let none : runNamed s run (runCountOf s) ≡ Nothing = ap (runNamed s run) (sym (count-of-runs s j ok)) ∙ sym ew ∙ en in
+    let none : runNamed (runOf s) run (runCountOf s) ≡ NoRun = ap (runNamed (runOf s) run) (sym (count-of-runs s j ok)) ∙ sym ew ∙ en in
     rw (ok .clear, none)
 
-pub one-run : (s : List ℕ) (j : Job) {which : Which} {k : ℕ} {r : Reduced} (run lines findings : ℕ) → ClearJob s j → which ≡ runNamed s run (j .runs) → which ≡ RunAt k → r ≡ reducedRun s k → handed r lines findings ≡ outcome s run lines findings
+pub one-run : (s : List ℕ) (j : Job) {which : Which} {k : ℕ} {r : Reduced} (run lines findings : ℕ) → ClearJob s j → which ≡ runNamed (runOf s) run (j .runs) → which ≡ Index k → r ≡ reducedRun s k → handed r lines findings ≡ outcome s run lines findings
 unfolding outcome
 one-run s j run lines findings ok ew ek er =
-    let one = ap (runNamed s run) (sym (count-of-runs s j ok)) ∙ sym ew ∙ ek in
+    let one = ap (runNamed (runOf s) run) (sym (count-of-runs s j ok)) ∙ sym ew ∙ ek in
     rw (ok .clear, one, er)
 
 -- what came of one outcome came of the same one
@@ -68,14 +68,14 @@ pub came-same : {o o′ : Outcome} {lines findings linesOut findingsOut : List �
 came-same {lines = lines} {findings} {linesOut} {findingsOut} {a} e came = subst (λ o. Came o lines findings linesOut findingsOut a) e came
 
 -- a run that was found is one of the job's
-one-of : (test : Bool) (rest : Which) (n : ℕ) {k : ℕ} → cond test (RunAt n) rest ≡ RunAt k → (rest ≡ RunAt k → k < n) → k < suc n
+one-of : (test : Bool) (rest : Which) (n : ℕ) {k : ℕ} → cond test (Index n) rest ≡ Index k → (rest ≡ Index k → k < n) → k < suc n
 one-of true rest n {k} e before = let same : n ≡ k = cc in omega arith
 one-of false rest n e before = let less = before e in omega arith
 
-pub found-inside : (s : List ℕ) (run n : ℕ) {k : ℕ} → runNamed s run n ≡ RunAt k → k < n
+pub found-inside : (s : List ℕ) (run n : ℕ) {k : ℕ} → runNamed (runOf s) run n ≡ Index k → k < n
 unfolding runNamed
 found-inside s run zero e = let never : _≡_ {A = ℕ} 0 1 = cc in absurd (omega arith)
-found-inside s run (suc n) e = one-of (eqb (runOf s n .number) run) (runNamed s run n) n e (found-inside s run n)
+found-inside s run (suc n) e = one-of (eqb (runOf s n .header .number) run) (runNamed (runOf s) run n) n e (found-inside s run n)
 
 -- The other calls
 

@@ -11,7 +11,7 @@ use Rattle.job.specs.Places.{runCountOf, runOf}
 use Rattle.job.specs.Troubles.{jobTrouble}
 use Rattle.reduction.specs.declared.Reduced.{Reduced}
 use Rattle.reduction.specs.declared.Which.{Which}
-use Rattle.reduction.specs.declared.Which.the-variants.{Run as RunAt, Nothing}
+use Rattle.reduction.specs.declared.Which.the-variants.{Index, NoRun}
 use Rattle.reduction.specs.Reducing.{reducedRun, runNamed}
 use Rattle.output.specs.declared.Answer.{Answer}
 use Rattle.output.specs.declared.Answer.the-variants.{Done, Refused}
@@ -32,13 +32,13 @@ handed r lines findings = cond (ltb lines 180 || ltb findings (4 * r .findings .
 
 -- 10: no run of that number
 abbrev pub ofRun : List ℕ → Which → ℕ → ℕ → Outcome
-ofRun s Nothing lines findings = refused 10 0
-ofRun s (RunAt k) lines findings = handed (reducedRun s k) lines findings
+ofRun s NoRun lines findings = refused 10 0
+ofRun s (Index k) lines findings = handed (reducedRun s k) lines findings
 
 -- the reader's 1 to 8 come first
 abbrev pub ofTrouble : Trouble → List ℕ → ℕ → ℕ → ℕ → Outcome
 ofTrouble (At number place) s run lines findings = refused number place
-ofTrouble Clear s run lines findings = ofRun s (runNamed s run (runCountOf s)) lines findings
+ofTrouble Clear s run lines findings = ofRun s (runNamed (runOf s) run (runCountOf s)) lines findings
 
 -- From the job's bytes, the run's number and the lengths of the two outputs
 unfoldable pub outcome : List ℕ → ℕ → ℕ → ℕ → Outcome
@@ -92,7 +92,7 @@ countAnswer s = countOf (jobTrouble s) s
 -- leverbonnet_run_number: an index past the last is refused 10
 abbrev pub numberOf : Trouble → List ℕ → ℕ → Answer
 numberOf (At number place) s index = Refused number place
-numberOf Clear s index = cond (leb (runCountOf s) index) (Refused 10 0) (Done (runOf s index .number))
+numberOf Clear s index = cond (leb (runCountOf s) index) (Refused 10 0) (Done (runOf s index .header .number))
 
 unfoldable pub numberAnswer : List ℕ → ℕ → Answer
 numberAnswer s index = numberOf (jobTrouble s) s index

@@ -59,7 +59,7 @@ pub fn reduce(job: &[u8], run: u16, lines: &mut [u8], findings: &mut [u8]) -> An
         return Answer::Refused(number, place as u32);
     }
     let which = find_run(job, read, run);
-    let Which::Run(k) = which else {
+    let Which::Index(k) = which else {
         return Answer::Refused(NO_RUN, 0);
     };
     hand_over(reduction::reduce(job, read, k), lines, findings)

@@ -11,8 +11,8 @@ le zero n = []
 le (suc width) n = le width n ++ (n / 256 ^ width % 256 ∷ [])
 
 -- the 64 bits of a signed number, two's complement
-abbrev pub bits : ℤ → ℕ
-bits z = ofZ w64 z
+abbrev pub signedBits : ℤ → ℕ
+signedBits z = ofZ w64 z
 
 -- the first n of some records, one after another
 unfoldable pub joined : (ℕ → List ℕ) → ℕ → List ℕ

@@ -6,7 +6,7 @@ ghost use mathlib.Core.List.{[], _∷_};
 ghost use Prim.Native.Nat.{_+_, _<_, _≤_};
 ghost use lib.ListN.{length};
 ghost use Rattle.output.specs.Answers.{packed};
-ghost use Rattle.output.specs.Bytes.{le, bits};
+ghost use Rattle.output.specs.Bytes.{le, signedBits};
 ghost use Rattle.output.specs.Splice.{spliced};
 
 // What a call answers: done, with a number; or refused, with the paper's number and the place.
@@ -50,8 +50,8 @@ pub fn put_number(out: &mut [u8], at: usize, width: usize, value: u64)
 }
 
 // The 64 bits of a signed number.
-pub fn bits(value: i64) -> u64
-    ensures { λ r. ⌜ r ≡ bits value ⌝ }
+pub fn signed_bits(value: i64) -> u64
+    ensures { λ r. ⌜ r ≡ signedBits value ⌝ }
 {
     if value < 0 {
         let below = !value;

@@ -7,9 +7,9 @@ use native.Mathlib.Numerals.{add-one}
 use native.Mathlib.Omega.{arith}
 use borrow.Author.Tests.{eq-eqb, ne-eqb}
 use lib.ListN.{length, getD, drop}
+use Rattle.readings.specs.Ranges.{greatestRunCount}
 use Rattle.fields.specs.declared.trouble.Trouble.{Trouble}
 use Rattle.fields.specs.declared.trouble.Trouble.the-variants.{Clear, At}
-use Rattle.certs.specs.InRange.{CertificateOk}
 use Rattle.arrays.proofs.Arrays.{pad-at}
 use Rattle.parts.proofs.Places.{enough}
 use Rattle.job.specs.declared.Job.{Job}
@@ -22,11 +22,11 @@ use Rattle.fields.specs.Numbers.{u16At}
 use Rattle.heads.specs.Values.{certificateOf}
 use Rattle.parts.specs.Values.{runAt, RunWithin}
 use Rattle.reduction.specs.declared.Which.{Which}
-use Rattle.reduction.specs.declared.Which.the-variants.{Run as RunAt, Nothing}
+use Rattle.reduction.specs.declared.Which.the-variants.{Index, NoRun}
 use Rattle.job.specs.Troubles.{jobTrouble}
-use Rattle.findings.specs.Listing.{listed}
+use Rattle.findings.specs.Listing.{mostFindings, listed}
 use Rattle.findings.proofs.Most.{at-most-for}
-use Rattle.reduction.specs.Reducing.{ClearJob, Workable, worked, chosenIn, reducedRun, runNamed}
+use Rattle.reduction.specs.Reducing.{ClearJob, ReducibleFrom, worked, reduction, chosenIn, reducedRun, runNamed}
 
 module _ (s : List ℕ) (j : Job) (ok : ClearJob s j) where
   whole : j ≡ jobOf Clear s
@@ -39,13 +39,13 @@ module _ (s : List ℕ) (j : Job) (ok : ClearJob s j) where
   pub count-of-certificates : j .certificates ≡ certificateCountOf s
   count-of-certificates = ap (λ (i : Job). i .certificates) whole
 
-  pub few-runs : j .runs ≤ 16
+  pub few-runs : j .runs ≤ greatestRunCount
   few-runs = rw count-of-runs (run-count s (job-clear s (ok .clear) .file))
 
   pub start-of : (k : ℕ) → k < runCountOf s → getD (j .starts) k 0 ≡ runStart s k
   start-of k inside =
       ap (λ (i : Job). getD (i .starts) k 0) whole
-      ∙ pad-at 16 0 (runStart s) (runCountOf s) k inside (run-count s (job-clear s (ok .clear) .file))
+      ∙ pad-at greatestRunCount 0 (runStart s) (runCountOf s) k inside (run-count s (job-clear s (ok .clear) .file))
 
   -- its runs lie within the file
   pub lies-within : (k : ℕ) → k < runCountOf s → RunWithin s (getD (j .starts) k 0)
@@ -56,31 +56,25 @@ module _ (s : List ℕ) (j : Job) (ok : ClearJob s j) where
   number-left k inside e =
       enough s (getD (j .starts) k 0) 2 e (omega (arith, lies-within k (rw count-of-runs at inside) .end))
 
-  -- and each can be worked with the job's certificates
-  pub workable : (k : ℕ) → k < runCountOf s → Workable s (j .certificates) (runOf s k)
+  -- and each can be reduced with the job's certificates
+  pub workable : (k : ℕ) → k < runCountOf s → ReducibleFrom s (j .certificates) (runOf s k)
   workable k inside =
-      subst⁻¹ (λ n. Workable s n (runOf s k)) count-of-certificates
-      (record { run = clear-run s (ok .clear) k inside; within = certificates-within s (ok .clear); certificates = record { each = each } })
-    where
-      each : (i : ℕ) → i < certificateCountOf s → CertificateOk (certificateOf s i)
-      each i held =
-          let c = clear-certificate s (ok .clear) i held in
-          record {
-            factor = c .factor;
-            coefficient = c .coefficient;
-            diameters = λ e. record { first = c .firstDiameter e; second = c .secondDiameter e; third = c .thirdDiameter e };
-          }
+      subst⁻¹ (λ n. ReducibleFrom s n (runOf s k)) count-of-certificates
+      (record {
+        within = certificates-within s (ok .clear);
+        reducible = record { run = clear-run s (ok .clear) k inside; certificates = record { each = clear-certificate s (ok .clear) } };
+      })
 
--- a run of a clear job has at most 98 findings
-pub found-few : (s : List ℕ) → jobTrouble s ≡ Clear → (k : ℕ) → k < runCountOf s → reducedRun s k .findings .count ≤ 98
-unfolding reducedRun worked listed
+-- a run of a clear job has no more findings than the list holds
+pub found-few : (s : List ℕ) → jobTrouble s ≡ Clear → (k : ℕ) → k < runCountOf s → reducedRun s k .findings .count ≤ mostFindings
+unfolding reducedRun reduction worked chosenIn listed
 found-few s clear k inside = at-most-for (runOf s k) (chosenIn s k) (clear-run s clear k inside)
 
 -- the search for a run by its number has passed k runs
 pub record Sought (s : List ℕ) (number : ℕ) (found : Which) (k : ℕ) : Type 0 where
-  pub is : found ≡ runNamed s number k
+  pub is : found ≡ runNamed (runOf s) number k
 
-pub sought-none : (s : List ℕ) (number : ℕ) → Sought s number Nothing 0
+pub sought-none : (s : List ℕ) (number : ℕ) → Sought s number NoRun 0
 unfolding runNamed
 sought-none s number = record { is = refl }
 
@@ -88,7 +82,7 @@ pub sought-more : (s : List ℕ) (number k at : ℕ) {found next : Which} {read 
     Sought s number found k →
     at ≡ runStart s k →
     read ≡ u16At (drop at s) 0 →
-    ((read ≡ number) × (next ≡ RunAt k)) ⊎ ((read ≡ number → ⊥) × (next ≡ found)) →
+    ((read ≡ number) × (next ≡ Index k)) ⊎ ((read ≡ number → ⊥) × (next ≡ found)) →
     Sought s number next (k + 1)
 unfolding runNamed runAt
 sought-more s number k at {found} {next} {read} so ea er (inl (e, en)) =

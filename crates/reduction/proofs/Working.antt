@@ -5,35 +5,35 @@ use mathlib.Core.Bool.{Bool}
 use mathlib.Core.List.{List}
 use lib.ListN.{length, take, replicate}
 use lib.Seq.{take-append-seam}
+use Rattle.records.specs.declared.Certificate.{Certificate}
 use Rattle.records.specs.declared.Run.{Run}
 use Rattle.lines.specs.declared.Diameters.{Diameters}
 use Rattle.lines.specs.declared.Lines.{Lines}
 use Rattle.lines.specs.declared.Sheet.{Sheet}
 use Rattle.lines.specs.declared.Value.{Value}
-use Rattle.lines.specs.Promise.{Workable as WorkableLines}
+use Rattle.lines.specs.XXX
 use Rattle.lines.specs.Sheet.{lines, sheet}
 use Rattle.certs.specs.declared.Chosen.{Chosen}
-use Rattle.heads.specs.Values.{certificateOf}
 use Rattle.certs.specs.Choosing.{chosenFor}
 use Rattle.certs.specs.Factor.{factorOf, coefficientOf, diametersOf}
 use Rattle.certs.specs.InRange.{ChosenOk}
 use Rattle.certs.proofs.Values.{chosen-in-range, factor-range, coefficient-range, diameters-range}
 use Rattle.findings.specs.declared.Finding.{Finding}
 use Rattle.findings.specs.declared.Findings.{Findings}
-use Rattle.findings.specs.Listing.{most, noFinding, findings, accepted, listed, linesFor, findingsFor}
+use Rattle.findings.specs.Listing.{mostFindings, noFinding, findings, accepted, listed, linesFor, findingsFor}
 use Rattle.reduction.specs.declared.Reduced.{Reduced}
-use Rattle.reduction.specs.Reducing.{Workable, worked}
+use Rattle.reduction.specs.Reducing.{worked, reduction, Reducible}
 
-module _ (s : List ℕ) (count : ℕ) (r : Run) (ok : Workable s count r) where
+module _ (f : ℕ → Certificate) (n : ℕ) (r : Run) (ok : Reducible f n r) where
   -- what is chosen for a run is in range, and so are the values that it gives
-  pub lines-workable : {ch : Chosen} {y cp : Value} {nozzle : Diameters} → ch ≡ chosenFor (certificateOf s) count r → y ≡ factorOf ch → cp ≡ coefficientOf ch → nozzle ≡ diametersOf ch → WorkableLines r y cp nozzle
+  pub lines-workable : {ch : Chosen} {y cp : Value} {nozzle : Diameters} → ch ≡ chosenFor f n (r .header) → y ≡ factorOf ch → cp ≡ coefficientOf ch → nozzle ≡ diametersOf ch → RunWithValues r y cp nozzle
   lines-workable {ch} ec ey ecp en =
-      let chosen : ChosenOk ch = subst⁻¹ ChosenOk ec (chosen-in-range (certificateOf s) count r (ok .certificates)) in
+      let chosen : ChosenOk ch = subst⁻¹ ChosenOk ec (chosen-in-range f n (r .header) (ok .certificates)) in
       record {
         run = ok .run;
         factor = rw ey (factor-range ch chosen);
         coefficient = rw ecp (coefficient-range ch chosen);
-        diameters = rw en (record { measured = diameters-range ch chosen .measured });
+        diameters = rw en (diameters-range ch chosen);
       }
 
 -- the findings take the lines that the chosen certificates give
@@ -44,8 +44,8 @@ lines-worked r ch ey ecp en el = el ∙ rw (ey, ecp, en)
 -- as many findings as the list holds
 pub listed-count : (fs : List Finding) → take (listed fs .count) (listed fs .list) ≡ fs
 unfolding listed
-listed-count fs = take-append-seam fs (replicate (most - length fs) noFinding)
+listed-count fs = take-append-seam fs (replicate (mostFindings - length fs) noFinding)
 
-pub is-worked : (r : Run) {ch chosen : Chosen} {l : Lines} {found : Findings} {stands : Bool} {written : Sheet} → ch ≡ chosen → l ≡ linesFor r ch → found ≡ listed (findings r ch l) → stands ≡ accepted (take (found .count) (found .list)) → written ≡ sheet l → _≡_ {A = Reduced} (record { number = r .number; accepted = stands; sheet = written; findings = found }) (worked r chosen)
-unfolding worked findingsFor
-is-worked r {ch} ec el ef ea ew = rw (ew, ea, ef, listed-count, el, ec)
+pub is-reduction : (r : Run) {f : ℕ → Certificate} {n : ℕ} {ch : Chosen} {l : Lines} {found : Findings} {stands : Bool} {written : Sheet} → ch ≡ chosenFor f n (r .header) → l ≡ linesFor r ch → found ≡ listed (findings r ch l) → stands ≡ accepted (take (found .count) (found .list)) → written ≡ sheet l → _≡_ {A = Reduced} (record { number = r .header .number; accepted = stands; sheet = written; findings = found }) (reduction f n r)
+unfolding reduction worked findingsFor
+is-reduction r {ch} ec el ef ea ew = rw (ew, ea, ef, listed-count, el, ec)

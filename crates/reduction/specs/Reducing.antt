@@ -1,4 +1,5 @@
--- A run of a job reduced: from its record and the certificates chosen for it to its lines and its findings.
+-- A run reduced: from its record and the certificates chosen for it to its lines and its findings. Certificates are a function
+-- of an index, and a run is a value; a job's file is one source of both.
 use Prim.Native.Nat.{ℕ, zero, suc, _≤_, _<_}
 use mathlib.Core.Path.{_≡_}
 use mathlib.Core.Bool.{cond}
@@ -6,6 +7,7 @@ use mathlib.Core.List.{List}
 use lib.Dec.{eqb}
 use lib.ListN.{length}
 use Rattle.fields.specs.declared.trouble.Trouble.the-variants.{Clear}
+use Rattle.records.specs.declared.Certificate.{Certificate}
 use Rattle.records.specs.declared.Run.{Run}
 use Rattle.records.specs.InRange.{RunOk}
 use Rattle.lines.specs.Sheet.{sheet}
@@ -20,15 +22,42 @@ use Rattle.job.specs.Reading.{readJob}
 use Rattle.job.specs.Troubles.{jobTrouble}
 use Rattle.reduction.specs.declared.Reduced.{Reduced}
 use Rattle.reduction.specs.declared.Which.{Which}
-use Rattle.reduction.specs.declared.Which.the-variants.{Run as RunAt, Nothing}
+use Rattle.reduction.specs.declared.Which.the-variants.{Index, NoRun}
 
--- a run in range, and certificates that lie within their file and are in range
-pub record Workable (s : List ℕ) (count : ℕ) (r : Run) : Type 0 where
+-- From values
+
+-- a run worked with the certificates chosen for it
+unfoldable pub worked : Run → Chosen → Reduced
+worked r ch =
+    record {
+      number = r .header .number;
+      accepted = accepted (findingsFor r ch);
+      sheet = sheet (linesFor r ch);
+      findings = listed (findingsFor r ch);
+    }
+
+-- A run reduced with the first n certificates
+unfoldable pub reduction : (ℕ → Certificate) → ℕ → Run → Reduced
+reduction f n r = worked r (chosenFor f n (r .header))
+
+-- the run and the certificates are in range
+pub record Reducible (f : ℕ → Certificate) (n : ℕ) (r : Run) : Type 0 where
   pub run : RunOk r
-  pub within : certificatePlace count ≤ length s
-  pub certificates : CertificatesOk (certificateOf s) count
+  pub certificates : CertificatesOk f n
 
--- a job read from its file without trouble, and one of its runs
+-- which of the first n runs has a number
+unfoldable pub runNamed : (ℕ → Run) → ℕ → ℕ → Which
+runNamed f number zero = NoRun
+runNamed f number (suc k) = cond (eqb (f k .header .number) number) (Index k) (runNamed f number k)
+
+-- From a file
+
+-- the first n certificates lie within it, and can reduce a run
+pub record ReducibleFrom (s : List ℕ) (n : ℕ) (r : Run) : Type 0 where
+  pub within : certificatePlace n ≤ length s
+  pub reducible : Reducible (certificateOf s) n r
+
+-- a job read from it without trouble, and one of its runs
 pub record ClearJob (s : List ℕ) (j : Job) : Type 0 where
   pub is : j ≡ readJob s
   pub clear : jobTrouble s ≡ Clear
@@ -37,25 +66,10 @@ pub record ClearRun (s : List ℕ) (j : Job) (k : ℕ) : Type 0 where
   pub job : ClearJob s j
   pub inside : k < runCountOf s
 
--- A run worked with the certificates chosen for it
-unfoldable pub worked : Run → Chosen → Reduced
-worked r ch =
-    record {
-      number = r .number;
-      accepted = accepted (findingsFor r ch);
-      sheet = sheet (linesFor r ch);
-      findings = listed (findingsFor r ch);
-    }
-
 -- the certificates chosen for run k of a job
 unfoldable pub chosenIn : List ℕ → ℕ → Chosen
-chosenIn s k = chosenFor (certificateOf s) (certificateCountOf s) (runOf s k)
+chosenIn s k = chosenFor (certificateOf s) (certificateCountOf s) (runOf s k .header)
 
 -- Run k of a job
 unfoldable pub reducedRun : List ℕ → ℕ → Reduced
-reducedRun s k = worked (runOf s k) (chosenIn s k)
-
--- which of the first n runs has a number
-unfoldable pub runNamed : List ℕ → ℕ → ℕ → Which
-runNamed s number zero = Nothing
-runNamed s number (suc k) = cond (eqb (runOf s k .number) number) (RunAt k) (runNamed s number k)
+reducedRun s k = reduction (certificateOf s) (certificateCountOf s) (runOf s k)

@@ -10,8 +10,8 @@ use lines::sheets;
 use records::Run;
 ghost use mathlib.Core.Path.{_≡_};
 ghost use Rattle.heads.specs.Values.{certificateOf};
-ghost use Rattle.certs.specs.Choosing.{chosenFor};
-ghost use Rattle.reduction.specs.Reducing.{Workable, ClearJob, ClearRun, worked, runNamed, reducedRun};
+ghost use Rattle.job.specs.Places.{runOf};
+ghost use Rattle.reduction.specs.Reducing.{ReducibleFrom, ClearJob, ClearRun, reduction, runNamed, reducedRun};
 
 // A run's number, whether it stands, its sheet and its findings.
 pub struct Reduced {
@@ -23,23 +23,23 @@ pub struct Reduced {
 
 // What a search for a run by its number answers.
 pub enum Which {
-    Run(usize),
-    Nothing,
+    Index(usize),
+    NoRun,
 }
 
-// A run worked with the first `count` certificates of its file.
-fn work(s: &[u8], count: usize, run: Run) -> Reduced
-    requires { ⌜ Workable (now s) count run ⌝ }
-    ensures { λ r. ⌜ r ≡ worked run (chosenFor (certificateOf (now (s .entry))) count run) ⌝ }
+// A run, wherever it comes from, reduced with the first `count` certificates of a file, which are read at their place.
+pub fn work(s: &[u8], count: usize, run: Run) -> Reduced
+    requires { ⌜ ReducibleFrom (now s) count run ⌝ }
+    ensures { λ r. ⌜ r ≡ reduction (certificateOf (now (s .entry))) count run ⌝ }
 {
-    let chosen = certs::choose_all(s, count, run);
+    let chosen = certs::choose_all(s, count, run.header);
     let y = factor::factor_of(chosen);
     let cp = factor::coefficient_of(chosen);
     let nozzle = factor::diameters_of(chosen);
     let l = sheets::lines(run, y, cp, nozzle);
     let found = findings::find(run, chosen, l);
     Reduced {
-        number: run.number,
+        number: run.header.number,
         accepted: findings::accepted(found),
         sheet: sheets::sheet(l),
         findings: found,
@@ -58,15 +58,15 @@ pub fn reduce(s: &[u8], job: Job, k: usize) -> Reduced
 // The run of that number in a job without trouble. Numbers rise, so there is at most one.
 pub fn find_run(s: &[u8], job: Job, number: u16) -> Which
     requires { ⌜ ClearJob (now s) job ⌝ }
-    ensures { λ r. ⌜ r ≡ runNamed (now (s .entry)) number (job .runs) ⌝ }
+    ensures { λ r. ⌜ r ≡ runNamed (runOf (now (s .entry))) number (job .runs) ⌝ }
 {
     let starts = job.starts;
     let runs = job.runs;
-    let mut found = Which::Nothing;
+    let mut found = Which::NoRun;
     let mut k: usize = 0;
     while k < runs {
         if numbers::u16_at(numbers::tail(s, starts[k]), 0) == number {
-            found = Which::Run(k);
+            found = Which::Index(k);
         }
         k += 1;
     }

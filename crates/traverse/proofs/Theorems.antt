@@ -24,12 +24,6 @@ one-position n i e some near =
     let is : IsPosition n i (position n i) = position-is (points-of n e) some near in
     (is, λ p other. position-unique other is)
 
--- The far half mirrors as 1000 - p
-pub far-position : (n i : ℕ) → diameterPoints n ≡ true → n < 2 * i → i ≤ n → position n i ≡ 1000 - position n (n + 1 - i)
-far-position n i e far inside =
-    let mirror : position n i + position n (n + 1 - i) ≡ 1000 = position-mirror (points-of n e) (omega arith) inside in
-    omega arith
-
 -- The positions for 6 points
 pub starred-positions : map (position 6) (1 ∷ 2 ∷ 3 ∷ 4 ∷ 5 ∷ 6 ∷ []) ≡ starredPositions
 unfolding starredPositions position nearPosition nearestRoot floorRoot grown

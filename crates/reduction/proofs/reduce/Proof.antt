@@ -1,7 +1,7 @@
 -- The run is read at its place and worked with the certificates that the job holds.
 use native.Mathlib.Omega.{arith}
 use mathlib.Core.Path.{_∙_, ap}
-use Rattle.reduction.specs.Reducing.{reducedRun, chosenIn, worked}
+use Rattle.reduction.specs.Reducing.{reduction, reducedRun}
 use Rattle.reduction.proofs.ClearJobs.{few-runs, count-of-runs, count-of-certificates, start-of, lies-within, workable}
 use Prim.Native.Nat.{ℕ}
 use mathlib.Core.Path.{_≡_}
@@ -9,23 +9,22 @@ use mathlib.Core.List.{List}
 use lib.ListN.{getD}
 use Rattle.records.specs.declared.Run.{Run}
 use Rattle.heads.specs.Values.{certificateOf}
-use Rattle.certs.specs.Choosing.{chosenFor}
 use Rattle.job.specs.declared.Job.{Job}
 use Rattle.job.specs.Places.{runOf}
 use Rattle.parts.specs.Values.{runAt}
 use Rattle.reduction.specs.declared.Reduced.{Reduced}
-use Rattle.reduction.specs.Reducing.{Workable, ClearRun}
+use Rattle.reduction.specs.Reducing.{ReducibleFrom, ClearRun}
 use Rattle.reduction.proofs.reduce.Statement.{statement}
 use Rattle.reduction.proofs.reduce.Tie as tie
 
 this-run : {s : List ℕ} {j : Job} {k : ℕ} {r : Run} → ClearRun s j k → r ≡ runAt s (getD (j .starts) k 0) → r ≡ runOf s k
 this-run {s} {j} {k} ok e = e ∙ ap (runAt s) (start-of s j (ok .job) k (ok .inside))
 
-ready : {s : List ℕ} {j : Job} {k : ℕ} {r : Run} → ClearRun s j k → r ≡ runAt s (getD (j .starts) k 0) → Workable s (j .certificates) r
+ready : {s : List ℕ} {j : Job} {k : ℕ} {r : Run} → ClearRun s j k → r ≡ runAt s (getD (j .starts) k 0) → ReducibleFrom s (j .certificates) r
 ready {s} {j} {k} ok e = rw (this-run ok e) (workable s j (ok .job) k (ok .inside))
 
-is-reduced : {s : List ℕ} {j : Job} {k : ℕ} {r : Run} {done : Reduced} → ClearRun s j k → r ≡ runAt s (getD (j .starts) k 0) → done ≡ worked r (chosenFor (certificateOf s) (j .certificates) r) → done ≡ reducedRun s k
-unfolding reducedRun chosenIn
+is-reduced : {s : List ℕ} {j : Job} {k : ℕ} {r : Run} {done : Reduced} → ClearRun s j k → r ≡ runAt s (getD (j .starts) k 0) → done ≡ reduction (certificateOf s) (j .certificates) r → done ≡ reducedRun s k
+unfolding reducedRun
 is-reduced {s} {j} {k} ok e ed =
     ed ∙ rw (this-run ok e, count-of-certificates s j (ok .job))
 

@@ -1,11 +1,11 @@
 -- Each call's promise, one after another.
 use borrow.Author.Needs.{needs}
-use Rattle.findings.specs.Listing.{listed, findings, Worked}
+use Rattle.findings.specs.Listing.{mostFindings, listed, findings, Worked}
 use Rattle.records.specs.declared.Run.{Run}
 use Rattle.certs.specs.declared.Chosen.{Chosen}
 use Rattle.lines.specs.declared.Lines.{Lines}
 use Rattle.findings.proofs.Most.{at-most}
-use Rattle.reduction.proofs.Working.{lines-workable, lines-worked, is-worked}
+use Rattle.reduction.proofs.Working.{lines-workable, lines-worked, is-reduction}
 use Prim.Native.Nat.{_≤_}
 use Rattle.reduction.proofs.work.Statement.{statement}
 use Rattle.reduction.proofs.work.Tie as tie
@@ -23,19 +23,19 @@ diameters-of-requires : tie.Need-diameters-of-requires
 diameters-of-requires c κs = search needs
 
 lines-requires : tie.Need-lines-requires
-lines-requires c κs = lines-workable _ _ _ (c .before .before .before .before .before .pre) (c .before .before .before .choose-all .ensures) (c .before .before .factor-of .ensures) (c .before .coefficient-of .ensures) (c .diameters-of .ensures)
+lines-requires c κs = lines-workable _ _ _ (c .before .before .before .before .before .pre .reducible) (c .before .before .before .choose-all .ensures) (c .before .before .factor-of .ensures) (c .before .coefficient-of .ensures) (c .diameters-of .ensures)
 
 find-requires : tie.Need-find-requires
 find-requires c κs =
     record {
-      ok = c .before .before .before .before .before .before .pre .run;
+      ok = c .before .before .before .before .before .before .pre .reducible .run;
       lines = lines-worked _ _ (c .before .before .before .factor-of .ensures) (c .before .before .coefficient-of .ensures) (c .before .diameters-of .ensures) (c .lines .ensures .0);
     }
 
 worked-lines : (c : tie.After-find) → Worked (c .before .before .before .before .before .before .before .args .run) (c .before .before .before .before .before .choose-all .result) (c .before .lines .result)
 worked-lines c = find-requires (c .before) (tt {0})
 
-found-few : {r : Run} {ch : Chosen} {l : Lines} → Worked r ch l → listed (findings r ch l) .count ≤ 98
+found-few : {r : Run} {ch : Chosen} {l : Lines} → Worked r ch l → listed (findings r ch l) .count ≤ mostFindings
 unfolding listed
 found-few w = at-most _ _ _ w
 
@@ -46,7 +46,7 @@ sheet-requires : tie.Need-sheet-requires
 sheet-requires c κs = search needs
 
 returns : tie.Need-returns
-returns c = is-worked _ (c .before .before .before .before .before .before .before .choose-all .ensures) (worked-lines (c .before .before) .lines) (c .before .before .find .ensures) (c .before .accepted .ensures) (c .sheet .ensures)
+returns c = is-reduction _ (c .before .before .before .before .before .before .before .choose-all .ensures) (worked-lines (c .before .before) .lines) (c .before .before .find .ensures) (c .before .accepted .ensures) (c .sheet .ensures)
 
 pub work-spec : {M : Type 1} → statement M
 work-spec =

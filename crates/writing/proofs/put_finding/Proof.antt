@@ -10,11 +10,11 @@ use Rattle.findings.specs.declared.Finding.{Finding}
 use Rattle.output.specs.Bytes.{le}
 use Rattle.output.proofs.Bytes.{length-le}
 use Rattle.output.proofs.Splice.{spliced-more}
-use Rattle.leverbonnet.specs.Bytes.{findingBytes}
-use Rattle.leverbonnet.proofs.writing.put_finding.Statement.{statement}
-use Rattle.leverbonnet.proofs.writing.put_finding.Tie as tie
+use Rattle.writing.specs.Bytes.{findingSize, findingBytes}
+use Rattle.writing.proofs.put_finding.Statement.{statement}
+use Rattle.writing.proofs.put_finding.Tie as tie
 
-three : (f : Finding) (old : List ℕ) (at : ℕ) {a b out : List ℕ} → at + 4 ≤ length old → a ≡ spliced old at (f .rule ∷ []) → b ≡ spliced a (at + 1) (f .class ∷ []) → out ≡ spliced b (at + 2) (le 2 (f .place)) → out ≡ spliced old at (findingBytes f)
+three : (f : Finding) (old : List ℕ) (at : ℕ) {a b out : List ℕ} → at + findingSize ≤ length old → a ≡ spliced old at (f .rule ∷ []) → b ≡ spliced a (at + 1) (f .class ∷ []) → out ≡ spliced b (at + 2) (le 2 (f .place)) → out ≡ spliced old at (findingBytes f)
 unfolding findingBytes
 three f old at {a} {b} {out} room ea eb eo =
     let long : length (le 2 (f .place)) ≡ 2 = length-le 2 (f .place) in

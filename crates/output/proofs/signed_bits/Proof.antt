@@ -2,8 +2,8 @@
 use native.Mathlib.Omega.{arith}
 use mir.Syntax.{w64}
 use Rattle.arith.proofs.Signs.{Negative, NotNegative, negative, not-negative}
-use Rattle.output.proofs.bits.Statement.{statement}
-use Rattle.output.proofs.bits.Tie as tie
+use Rattle.output.proofs.signed_bits.Statement.{statement}
+use Rattle.output.proofs.signed_bits.Tie as tie
 
 below : (c : tie.Then1) → Negative w64 (c .before .args .value)
 below c = negative w64 _ (c .before .fits .value) (c .if1 .taken)
@@ -26,5 +26,5 @@ returns c = let s = below c in rw (s .shown) (s .back)
 returns-2 : tie.Need-returns-2
 returns-2 c = let s = not-below c in rw (s .shown) (s .back)
 
-pub bits-spec : {M : Type 1} → statement M
-bits-spec = tie.close (tie.spec cast-result sub-result cast-result-2 returns returns-2)
+pub signed-bits-spec : {M : Type 1} → statement M
+signed-bits-spec = tie.close (tie.spec cast-result sub-result cast-result-2 returns returns-2)

@@ -12,27 +12,27 @@ use mir.Syntax.{w64}
 use mir.Val.{SFits, toZ, ofZ}
 use Rattle.lines.specs.declared.Entry.{Entry}
 use Rattle.lines.specs.declared.Line.the-variants.{Present, Absent}
-use Rattle.output.specs.Bytes.{le, bits}
+use Rattle.output.specs.Bytes.{le, signedBits}
 use Rattle.output.specs.Splice.{spliced}
 use Rattle.output.proofs.Bytes.{length-le}
 use Rattle.output.proofs.Splice.{spliced-more}
-use Rattle.leverbonnet.specs.Bytes.{entryBytes}
-use Rattle.leverbonnet.proofs.writing.put_entry.Statement.{statement}
-use Rattle.leverbonnet.proofs.writing.put_entry.Tie as tie
+use Rattle.writing.specs.Bytes.{lineSize, entryBytes}
+use Rattle.writing.proofs.put_entry.Statement.{statement}
+use Rattle.writing.proofs.put_entry.Tie as tie
 
-two : (old : List ℕ) (at flag n : ℕ) {mid out : List ℕ} → at + 9 ≤ length old → mid ≡ spliced old at (flag ∷ []) → out ≡ spliced mid (at + 1) (le 8 n) → out ≡ spliced old at (flag ∷ le 8 n)
+two : (old : List ℕ) (at flag n : ℕ) {mid out : List ℕ} → at + lineSize ≤ length old → mid ≡ spliced old at (flag ∷ []) → out ≡ spliced mid (at + 1) (le 8 n) → out ≡ spliced old at (flag ∷ le 8 n)
 two old at flag n room em eo =
     let long : length (le 8 n) ≡ 8 = length-le 8 n in
     eo ∙ rw em (spliced-more old at (flag ∷ []) (le 8 n) (omega arith))
 
-present : (entry : Entry) {z : ℤ} (old : List ℕ) (at : ℕ) {mid out : List ℕ} {n : ℕ} → entry .line ≡ Present z → mag z < 2 ^ 63 → at + 9 ≤ length old → mid ≡ spliced old at (1 ∷ []) → n ≡ bits (toZ w64 (ofZ w64 z)) → out ≡ spliced mid (at + 1) (le 8 n) → out ≡ spliced old at (entryBytes entry)
+present : (entry : Entry) {z : ℤ} (old : List ℕ) (at : ℕ) {mid out : List ℕ} {n : ℕ} → entry .line ≡ Present z → mag z < 2 ^ 63 → at + lineSize ≤ length old → mid ≡ spliced old at (1 ∷ []) → n ≡ signedBits (toZ w64 (ofZ w64 z)) → out ≡ spliced mid (at + 1) (le 8 n) → out ≡ spliced old at (entryBytes entry)
 unfolding entryBytes
 present entry {z} old at {mid} {out} {n} el small room em en eo =
     let fits : SFits w64 z = record { sfits = small } in
-    let value : n ≡ bits z = en ∙ ap bits (toZ-ofZ fits) in
+    let value : n ≡ signedBits z = en ∙ ap signedBits (toZ-ofZ fits) in
     rw el (two old at 1 n room em eo ∙ ap (λ v. spliced old at (1 ∷ le 8 v)) value)
 
-absent : (entry : Entry) (old : List ℕ) (at : ℕ) {mid out : List ℕ} → entry .line ≡ Absent → at + 9 ≤ length old → mid ≡ spliced old at (0 ∷ []) → out ≡ spliced mid (at + 1) (le 8 0) → out ≡ spliced old at (entryBytes entry)
+absent : (entry : Entry) (old : List ℕ) (at : ℕ) {mid out : List ℕ} → entry .line ≡ Absent → at + lineSize ≤ length old → mid ≡ spliced old at (0 ∷ []) → out ≡ spliced mid (at + 1) (le 8 0) → out ≡ spliced old at (entryBytes entry)
 unfolding entryBytes
 absent entry old at el room em eo = rw el (two old at 0 0 room em eo)
 
@@ -45,8 +45,8 @@ put-byte-requires c κs = search needs
 add-put-number : tie.Need-add-put-number
 add-put-number c = search needs
 
-bits-requires : tie.Need-bits-requires
-bits-requires c κs = search needs
+signed-bits-requires : tie.Need-signed-bits-requires
+signed-bits-requires c κs = search needs
 
 put-number-requires : tie.Need-put-number-requires
 put-number-requires c κs = search needs
@@ -67,7 +67,7 @@ same-length : tie.Need-same-length
 same-length c = search needs
 
 returns : tie.Need-returns
-returns c = present _ _ _ (c .before .before .before .before .before .before .before .before .before .before .line .given .1) (omega (arith, c .before .before .before .before .before .before .before .before .before .known-told .given)) (c .before .before .before .before .before .before .before .before .before .before .before .before .before .pre) (c .before .before .before .before .before .before .before .put-byte .ensures) (c .before .before .before .bits .ensures) (c .before .before .put-number .ensures)
+returns c = present _ _ _ (c .before .before .before .before .before .before .before .before .before .before .line .given .1) (omega (arith, c .before .before .before .before .before .before .before .before .before .known-told .given)) (c .before .before .before .before .before .before .before .before .before .before .before .before .before .pre) (c .before .before .before .before .before .before .before .put-byte .ensures) (c .before .before .before .signed-bits .ensures) (c .before .before .put-number .ensures)
 
 same-length-2 : tie.Need-same-length-2
 same-length-2 c = search needs
@@ -82,7 +82,7 @@ put-entry-spec =
     enum-known-line
     put-byte-requires
     add-put-number
-    bits-requires
+    signed-bits-requires
     put-number-requires
     enum-told
     put-byte-requires-2

@@ -1,0 +1,2 @@
+-- Lines and findings as they are handed over.
+pub mod Bytes
