@@ -1,10 +1,12 @@
 -- The three parts of the sheet, from a run in range and the values of its certificates.
 use borrow.Author.Needs.{needs}
 use native.Mathlib.Omega.{arith}
-use Rattle.lines.proofs.SheetLaws.{traverse-ok, pb-range, gas-range, is-lines}
 use mathlib.Core.Path.{_∙_, ap}
 use Rattle.readings.specs.Ranges.{staticPressure}
-use Rattle.lines.proofs.FlowLaws.{pressure-bits}
+use Rattle.metering.proofs.RunInRange.{pb-range}
+use Rattle.stack.proofs.Pressure.{pressure-bits}
+use Rattle.lines.proofs.RunInRange.{traverse-ok, gas-range}
+use Rattle.lines.proofs.Together.{is-lines}
 use Rattle.lines.proofs.sheets.lines.Statement.{statement}
 use Rattle.lines.proofs.sheets.lines.Tie as tie
 
