@@ -14,9 +14,9 @@ use Rattle.lines.specs.declared.Lines.{Lines}
 use Rattle.lines.specs.Sheet.{lines}
 
 pub is-lines : (r : Run) (y cp : Value) (nozzle : Diameters) {m : Metering} {s : Stack} {p : Sampling} {pg : ℤ} →
-    pg ≡ r .pg →
+    pg ≡ r .header .pg →
     m ≡ metering r y →
-    s ≡ stack (r .co2) (r .o2) (m .moisture) (r .pb) pg (r .points) (r .counts .points) cp →
+    s ≡ stack (r .header .co2) (r .header .o2) (m .moisture) (r .header .pb) pg (r .points) (r .header .counts .points) cp →
     p ≡ sampling r m s nozzle →
     _≡_ {A = Lines} (record { metering = m; stack = s; sampling = p }) (lines r y cp nozzle)
 unfolding lines

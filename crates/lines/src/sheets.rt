@@ -21,17 +21,18 @@ pub fn lines(run: Run, y: Value, cp: Value, nozzle: Diameters) -> Lines
     requires { ⌜ RunWithValues run y cp nozzle ⌝ }
     ensures { λ r. ⌜ (r ≡ lines run y cp nozzle) × LinesOk r ⌝ }
 {
+    let header = run.header;
     let points = run.points;
     let m = metering(run, y);
     let moisture = m.moisture;
     let s = stack(
-        run.co2 as u64,
-        run.o2 as u64,
+        header.co2 as u64,
+        header.o2 as u64,
         moisture,
-        run.pb as u64,
-        run.pg,
+        header.pb as u64,
+        header.pg,
         points,
-        run.counts.points as usize,
+        header.counts.points as usize,
         cp,
     );
     Lines {

@@ -7,14 +7,14 @@ use Rattle.metering.specs.declared.Metering.{Metering}
 use Rattle.metering.specs.Metering.{time, meteredVolume, correctedVolume, meanOrifice, meterPressure, meterTemperature, dryVolume, waterVapor, moisture, metering}
 
 pub is-metering : (r : Run) (y : Value) {t v corrected h pressure temperature vapor : ℕ} {dry wet : Value} →
-    t ≡ time (r .points) (r .counts .points) →
-    v ≡ meteredVolume (r .first) (r .last) →
-    corrected ≡ correctedVolume t v (r .segments) (r .counts .segments) →
-    h ≡ meanOrifice (r .points) (r .counts .points) →
-    pressure ≡ meterPressure (r .pb) h →
-    temperature ≡ meterTemperature (r .points) (r .counts .points) →
+    t ≡ time (r .points) (r .header .counts .points) →
+    v ≡ meteredVolume (r .header .first) (r .header .last) →
+    corrected ≡ correctedVolume t v (r .segments) (r .header .counts .segments) →
+    h ≡ meanOrifice (r .points) (r .header .counts .points) →
+    pressure ≡ meterPressure (r .header .pb) h →
+    temperature ≡ meterTemperature (r .points) (r .header .counts .points) →
     dry ≡ dryVolume corrected y pressure temperature →
-    vapor ≡ waterVapor (r .water) →
+    vapor ≡ waterVapor (r .header .water) →
     wet ≡ moisture dry vapor →
     _≡_ {A = Metering} (record { time = t; volume = v; corrected = corrected; pressure = pressure; temperature = temperature; dry = dry; vapor = vapor; moisture = wet }) (metering r y)
 unfolding metering

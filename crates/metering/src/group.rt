@@ -11,6 +11,7 @@ use crate::water_vapor;
 use records::Run;
 use values::Value;
 ghost use mathlib.Core.Path.{_≡_};
+ghost use Rattle.readings.specs.Ranges.{leastFactor, greatestFactor};
 ghost use Rattle.records.specs.InRange.{RunOk};
 ghost use Rattle.values.specs.Promise.{Between};
 ghost use Rattle.metering.specs.Metering.{metering};
@@ -19,20 +20,21 @@ ghost use Rattle.metering.specs.Promise.{MeteringOk};
 // From the run and its meter's factor Y.
 pub fn metering(run: Run, y: Value) -> Metering
     requires { ⌜ RunOk run ⌝ }
-    requires { ⌜ Between 9000 11000 y ⌝ }
+    requires { ⌜ Between leastFactor greatestFactor y ⌝ }
     ensures { λ r. ⌜ (r ≡ metering run y) × MeteringOk r ⌝ }
 {
+    let header = run.header;
     let points = run.points;
     let segments = run.segments;
-    let n = run.counts.points as usize;
+    let n = header.counts.points as usize;
     let read = meter_points(points, n);
     let t = read.time;
-    let v = metered_volume(run.first, run.last);
-    let corrected = corrected_volume(t, v, segments, run.counts.segments as usize);
-    let pressure = meter_pressure(run.pb as u64, read.orifice);
+    let v = metered_volume(header.first, header.last);
+    let corrected = corrected_volume(t, v, segments, header.counts.segments as usize);
+    let pressure = meter_pressure(header.pb as u64, read.orifice);
     let temperature = read.temperature;
     let dry = dry_volume(corrected, y, pressure, temperature);
-    let vapor = water_vapor(run.water as u64);
+    let vapor = water_vapor(header.water as u64);
     Metering {
         time: t,
         volume: v,

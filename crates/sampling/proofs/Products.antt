@@ -2,6 +2,7 @@
 use Prim.Native.Nat.{ℕ, _*_, _/_, _≤_}
 use native.Mathlib.Nat.{mul-le-mul, mul-le-mul-left, min-le-right, le-trans}
 use native.Mathlib.Omega.{arith}
+use Rattle.readings.specs.Ranges.{greatestRinseVolume, leastSeconds, greatestTotalSeconds}
 use Rattle.readings.proofs.Ranges.{within-greatest}
 use Rattle.records.specs.declared.Acetone.{Acetone}
 use Rattle.records.specs.InRange.{AcetoneOk}
@@ -22,14 +23,14 @@ drawn-numerator ht hs = mul-le-mul (mul-le-mul-left 945 ht) hs
 pub divisor-most : {s a : ℕ} → s ≤ 749234 → a ≤ 545417 → s * a ≤ 408644960578
 divisor-most hs ha = mul-le-mul hs ha
 
-pub divisor-time-most : {s a t : ℕ} → s ≤ 749234 → a ≤ 545417 → t ≤ 36000 → s * a * t ≤ 14711218580808000
+pub divisor-time-most : {s a t : ℕ} → s ≤ 749234 → a ≤ 545417 → t ≤ greatestTotalSeconds → s * a * t ≤ 14711218580808000
 divisor-time-most hs ha ht = mul-le-mul (divisor-most hs ha) ht
 
-pub divisor-least : {s a t : ℕ} → 1 ≤ s → 5454 ≤ a → 1 ≤ t → 5454 ≤ s * a * t
+pub divisor-least : {s a t : ℕ} → 1 ≤ s → 5454 ≤ a → leastSeconds ≤ t → 5454 ≤ s * a * t
 divisor-least hs ha ht = mul-le-mul (mul-le-mul hs ha) ht
 
 -- Line 19's deduction
-rinse-most : {a : Acetone} → AcetoneOk a → a .rinse ≤ 1000
+rinse-most : {a : Acetone} → AcetoneOk a → a .rinse ≤ greatestRinseVolume
 rinse-most ok = within-greatest _ _ _ (ok .rinse)
 
 pub density-product : {a : Acetone} → AcetoneOk a → a .rinse * a .density ≤ 9999000

@@ -12,7 +12,7 @@ use Rattle.sampling.specs.Sampling.{nozzleArea, drawnGas, isokinetic, ca
 pub is-sampling : (r : Run) (m : Metering) (s : Stack) (nozzle : Diameters) {area drawn percent grains : Value} {caught : ℤ} →
     area ≡ nozzleArea nozzle →
     drawn ≡ drawnGas (m .dry) (m .vapor) (s .pressure) (s .temperature) →
-    caught ≡ catch (r .weighings) (r .counts .weighings) (r .acetone) →
+    caught ≡ catch (r .weighings) (r .header .counts .weighings) (r .header .acetone) →
     percent ≡ isokinetic drawn (s .velocity) area (m .time) →
     grains ≡ concentration caught (m .dry) →
     _≡_ {A = Sampling} (record { area = area; drawn = drawn; isokinetic = percent; catch = caught; concentration = grains }) (sampling r m s nozzle)

@@ -4,6 +4,7 @@ use mathlib.Core.List.{List}
 use mathlib.Core.Path.{_≡_}
 use lib.IntN.{ℤ, pos, negsuc}
 use lib.ListN.{getD}
+use Rattle.readings.specs.Ranges.{greatestWeighingCount}
 use Rattle.records.specs.declared.Weighing.{Weighing}
 use Rattle.records.specs.Records.{noWeighing}
 use Rattle.records.specs.InRange.{WeighingOk}
@@ -14,7 +15,7 @@ use Rattle.sampling.specs.Sampling.{finalWeights, tares}
 
 -- the first n weighings are in range
 pub record WeighingsOk (weighings : List Weighing) (n : ℕ) : Type 0 where
-  pub few : n ≤ 8
+  pub few : n ≤ greatestWeighingCount
   pub each : (i : ℕ) → i < n → WeighingOk (getD weighings i noWeighing)
 
 -- what one pass over the weighings gives

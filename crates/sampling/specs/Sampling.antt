@@ -63,7 +63,7 @@ unfoldable pub sampling : Run → Metering → Stack → Diameters → Sampling
 sampling r m s nozzle =
     let area : Value = nozzleArea nozzle in
     let drawn : Value = drawnGas (m .dry) (m .vapor) (s .pressure) (s .temperature) in
-    let caught : ℤ = catch (r .weighings) (r .counts .weighings) (r .acetone) in
+    let caught : ℤ = catch (r .weighings) (r .header .counts .weighings) (r .header .acetone) in
     record {
       area = area;
       drawn = drawn;

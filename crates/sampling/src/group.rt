@@ -26,13 +26,14 @@ pub fn sampling(run: Run, m: Metering, s: Stack, nozzle: Diameters) -> Sampling
     requires { ⌜ DiametersOk nozzle ⌝ }
     ensures { λ r. ⌜ (r ≡ sampling run m s nozzle) × SamplingOk r ⌝ }
 {
+    let header = run.header;
     let weighings = run.weighings;
-    let acetone = run.acetone;
+    let acetone = header.acetone;
     let dry = m.dry;
     let velocity = s.velocity;
     let area = nozzle_area(nozzle);
     let drawn = drawn_gas(dry, m.vapor, s.pressure, s.temperature);
-    let caught = catch(weighings, run.counts.weighings as usize, acetone);
+    let caught = catch(weighings, header.counts.weighings as usize, acetone);
     Sampling {
         area,
         drawn,

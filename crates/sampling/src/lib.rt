@@ -5,11 +5,13 @@ pub mod group;
 
 use arith::round_div;
 use arith::smaller;
+use readings::runs::WeighingCount;
 use records::Acetone;
 use records::Weighing;
 use values::Diameters;
 use values::Value;
 ghost use Prim.Native.Nat.{_≤_};
+ghost use Rattle.readings.specs.Ranges.{leastSeconds, greatestTotalSeconds};
 ghost use Rattle.records.specs.InRange.{AcetoneOk};
 ghost use Rattle.values.specs.Promise.{Is, IsValue, Between, DiametersOk};
 ghost use Rattle.sampling.specs.Sampling.{nozzleArea, drawnGas, isokinetic, deduction, catch, concentration};
@@ -53,7 +55,7 @@ pub fn isokinetic(drawn: Value, velocity: Value, area: Value, time: u64) -> Valu
     requires { ⌜ Between 0 19675261 drawn ⌝ }
     requires { ⌜ Between 0 749234 velocity ⌝ }
     requires { ⌜ Between 5454 545417 area ⌝ }
-    requires { ⌜ (1 ≤ time) × (time ≤ 36000) ⌝ }
+    requires { ⌜ (leastSeconds ≤ time) × (time ≤ greatestTotalSeconds) ⌝ }
     ensures { λ r. ⌜ IsValue 0 2164495159515952 (isokinetic drawn velocity area time) r ⌝ }
 {
     let Value::Known(gas) = drawn else {
@@ -88,7 +90,10 @@ pub struct WeighingSums {
 }
 
 // Both from one pass over the weighings.
-pub fn weighing_sums(weighings: [Weighing; 8], n: usize) -> WeighingSums
+pub fn weighing_sums(
+    weighings: [Weighing; WeighingCount::GREATEST as usize],
+    n: usize,
+) -> WeighingSums
     requires { ⌜ WeighingsOk weighings n ⌝ }
     ensures { λ r. ⌜ AreWeighingSums weighings n r ⌝ }
 {
@@ -105,7 +110,11 @@ pub fn weighing_sums(weighings: [Weighing; 8], n: usize) -> WeighingSums
 }
 
 // Line 19, 0.1 mg. It may be negative.
-pub fn catch(weighings: [Weighing; 8], n: usize, acetone: Acetone) -> i64
+pub fn catch(
+    weighings: [Weighing; WeighingCount::GREATEST as usize],
+    n: usize,
+    acetone: Acetone,
+) -> i64
     requires { ⌜ WeighingsOk weighings n ⌝ }
     requires { ⌜ AcetoneOk acetone ⌝ }
     ensures { λ r. ⌜ IsCatch (catch weighings n acetone) r ⌝ }

@@ -7,12 +7,13 @@ use crate::stack_points;
 use crate::stack_pressure;
 use crate::velocity;
 use crate::wet_weight;
+use readings::runs::PointCount;
 use records::Point;
 use values::Value;
 ghost use mathlib.Core.Path.{_≡_};
 ghost use mathlib.Core.Bool.{true};
 ghost use Prim.Native.Nat.{_+_, _≤_};
-ghost use Rattle.readings.specs.Ranges.{staticPressure};
+ghost use Rattle.readings.specs.Ranges.{leastCoefficient, greatestCoefficient, leastBarometer, greatestBarometer, staticPressure, greatestWithCo2};
 ghost use Rattle.values.specs.Promise.{Between};
 ghost use Rattle.stack.specs.Stack.{stack};
 ghost use Rattle.stack.specs.Promise.{TraverseOk, StackOk};
@@ -24,15 +25,15 @@ pub fn stack(
     moisture: Value,
     pb: u64,
     pg: i16,
-    points: [Point; 64],
+    points: [Point; PointCount::GREATEST as usize],
     n: usize,
     cp: Value,
 ) -> Stack
-    requires { ⌜ (co2 + o2 ≤ 1000) × (2000 ≤ pb) × (pb ≤ 3200) ⌝ }
+    requires { ⌜ (co2 + o2 ≤ greatestWithCo2) × (leastBarometer ≤ pb) × (pb ≤ greatestBarometer) ⌝ }
     requires { ⌜ Between 0 100000 moisture ⌝ }
     requires { ⌜ staticPressure pg ≡ true ⌝ }
     requires { ⌜ TraverseOk points n ⌝ }
-    requires { ⌜ Between 500 1000 cp ⌝ }
+    requires { ⌜ Between leastCoefficient greatestCoefficient cp ⌝ }
     ensures { λ r. ⌜ (r ≡ stack co2 o2 moisture pb pg points n cp) × StackOk r ⌝ }
 {
     let dry = dry_weight(co2, o2);

@@ -3,6 +3,7 @@ use Prim.Native.Nat.{ℕ, _≤_}
 use mathlib.Core.Path.{_≡_}
 use mathlib.Core.Bool.{Bool, true, false}
 use lib.Dec.{eqb}
+use Rattle.readings.specs.Ranges.{leastNozzleDiameter, greatestNozzleDiameter}
 use Rattle.values.specs.declared.Diameters.{Diameters}
 use Rattle.values.specs.declared.Diameters.the-variants.{Measured}
 use Rattle.values.specs.declared.Value.{Value}
@@ -34,4 +35,4 @@ unlessZero d v = pickValue (eqb d 0) v
 
 -- a nozzle's diameters, where they are measured, are in range
 pub record DiametersOk (d : Diameters) : Type 0 where
-  pub measured : (a b c : ℕ) → d ≡ Measured a b c → ((100 ≤ a) × (a ≤ 1000)) × ((100 ≤ b) × (b ≤ 1000)) × ((100 ≤ c) × (c ≤ 1000))
+  pub measured : (a b c : ℕ) → d ≡ Measured a b c → ((leastNozzleDiameter ≤ a) × (a ≤ greatestNozzleDiameter)) × ((leastNozzleDiameter ≤ b) × (b ≤ greatestNozzleDiameter)) × ((leastNozzleDiameter ≤ c) × (c ≤ greatestNozzleDiameter))

@@ -3,6 +3,7 @@ use Prim.Native.Nat.{ℕ, _+_, _-_}
 use mathlib.Core.List.{List}
 use native.Mathlib.Omega.{arith}
 use lib.ListN.{getD}
+use Rattle.readings.specs.Ranges.{greatestWeight}
 use Rattle.readings.proofs.Ranges.{within-greatest}
 use Rattle.records.specs.declared.Weighing.{Weighing}
 use Rattle.records.specs.Records.{noWeighing}
@@ -19,7 +20,7 @@ tare weighings i = getD weighings i noWeighing .tare
 
 abbrev Inv-loop : tie.InvT-loop
 Inv-loop n weighings finals₀ tares₀ i₀ finals tares i =
-    Summed (second weighings) 4000000 n finals i × Summed (tare weighings) 4000000 n tares i
+    Summed (second weighings) greatestWeight n finals i × Summed (tare weighings) greatestWeight n tares i
 
 abbrev μ-loop : tie.MeasureT-loop
 μ-loop n weighings finals₀ tares₀ i₀ finals tares i = n - i
@@ -36,7 +37,7 @@ array-copy-out-w c = omega (arith, c .before .before .pre .few)
 -- a turn adds the weighing's second final weight, and its tare
 next-finals :
     (c : tie.After-struct-known Inv-loop μ-loop)
-    → Summed (second (c .before .before .before .before .args .t1)) 4000000 (c .before .before .before .before .args .n) (c .before .before .before .loop .finals + second (c .before .before .before .before .args .t1) (c .before .before .before .loop .i)) (c .before .before .before .loop .i + 1)
+    → Summed (second (c .before .before .before .before .args .t1)) greatestWeight (c .before .before .before .before .args .n) (c .before .before .before .loop .finals + second (c .before .before .before .before .args .t1) (c .before .before .before .loop .i)) (c .before .before .before .loop .i + 1)
 next-finals c =
     let inside = c .before .before .loop-test .taken in
     summed-more (c .before .before .before .loop .inv .0) inside

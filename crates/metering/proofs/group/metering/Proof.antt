@@ -7,38 +7,38 @@ use Rattle.metering.proofs.group.metering.Statement.{statement}
 use Rattle.metering.proofs.group.metering.Tie as tie
 
 cast-n : tie.Need-cast-n
-cast-n c = omega (arith, points-ok _ (c .before .before .before .pre .0) .few)
+cast-n c = omega (arith, points-ok _ (c .before .before .before .before .pre .0) .few)
 
 meter-points-requires : tie.Need-meter-points-requires
-meter-points-requires c κs = (points-ok _ (c .before .before .before .pre .0), time-most _ (c .before .before .before .pre .0))
+meter-points-requires c κs = (points-ok _ (c .before .before .before .before .pre .0), time-most _ (c .before .before .before .before .pre .0))
 
 metered-volume-requires : tie.Need-metered-volume-requires
-metered-volume-requires c κs = readings-apart _ (c .before .before .before .before .pre .0)
+metered-volume-requires c κs = readings-apart _ (c .before .before .before .before .before .pre .0)
 
 cast-corrected-volume : tie.Need-cast-corrected-volume
-cast-corrected-volume c = omega (arith, segments-ok _ (c .before .before .before .before .before .before .pre .0) .few)
+cast-corrected-volume c = omega (arith, segments-ok _ (c .before .before .before .before .before .before .before .pre .0) .few)
 
 corrected-volume-requires : tie.Need-corrected-volume-requires
 corrected-volume-requires c κs =
     let t = c .before .before .meter-points .ensures .time in
-    ((t .low, t .high, c .before .metered-volume .ensures .high), segments-ok _ (c .before .before .before .before .before .before .pre .0))
+    ((t .low, t .high, c .before .metered-volume .ensures .high), segments-ok _ (c .before .before .before .before .before .before .before .pre .0))
 
 cast-meter-pressure : tie.Need-cast-meter-pressure
 cast-meter-pressure c = search needs
 
 meter-pressure-requires : tie.Need-meter-pressure-requires
 meter-pressure-requires c κs =
-    let pb = pb-range _ (c .before .before .before .before .before .before .before .before .pre .0) in
+    let pb = pb-range _ (c .before .before .before .before .before .before .before .before .before .pre .0) in
     (pb .0, pb .1, c .before .before .before .before .meter-points .ensures .orifice .high)
 
 dry-volume-requires : tie.Need-dry-volume-requires
 dry-volume-requires c κs = search needs
 
 cast-water-vapor : tie.Need-cast-water-vapor
-cast-water-vapor c = omega (arith, water-most _ (c .before .before .before .before .before .before .before .before .before .before .before .pre .0))
+cast-water-vapor c = omega (arith, water-most _ (c .before .before .before .before .before .before .before .before .before .before .before .before .pre .0))
 
 water-vapor-requires : tie.Need-water-vapor-requires
-water-vapor-requires c κs = water-most _ (c .before .before .before .before .before .before .before .before .before .before .before .pre .0)
+water-vapor-requires c κs = water-most _ (c .before .before .before .before .before .before .before .before .before .before .before .before .pre .0)
 
 moisture-requires : tie.Need-moisture-requires
 moisture-requires c κs = search needs
