@@ -90,10 +90,7 @@ pub struct WeighingSums {
 }
 
 // Both from one pass over the weighings.
-pub fn weighing_sums(
-    weighings: [Weighing; WeighingCount::GREATEST as usize],
-    n: usize,
-) -> WeighingSums
+fn weighing_sums(weighings: [Weighing; WeighingCount::GREATEST as usize], n: usize) -> WeighingSums
     requires { ⌜ WeighingsOk weighings n ⌝ }
     ensures { λ r. ⌜ AreWeighingSums weighings n r ⌝ }
 {

@@ -5,7 +5,7 @@ use Rattle.sampling.specs.Sampling.{deduction}
 use Rattle.sampling.proofs.Products.{residue-product, density-product, deduction-most}
 use Rattle.readings.proofs.Ranges.{within-least}
 use mathlib.Core.Path.{_≡_, _∙_, ap}
-use Prim.Native.Nat.{ℕ, _*_, _/_, min, _≤_}
+use Prim.Native.Nat.{ℕ, _*_, _/_, min}
 use Rattle.arith.specs.Rounding.{roundDiv}
 use Rattle.records.specs.declared.Acetone.{Acetone}
 use Rattle.records.specs.InRange.{AcetoneOk}
