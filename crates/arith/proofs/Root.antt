@@ -1,13 +1,15 @@
 -- The laws of the nearest root: the definition satisfies its two inequalities, only one number does, and both roots of the paper are it.
 use Prim.Native.Nat.{ℕ, zero, suc, _+_, _-_, _*_, _/_, _^_, _≤_, _<_}
 use mathlib.Core.Path.{_≡_, _∙_}
-use native.Mathlib.Nat.{mul-add, add-mul, add-assoc, mul-comm, mul-assoc, two-mul, mul-le-mul, pow-suc, pow-succ', le-trans, le-of-lt, lt-of-lt-of-le, lt-of-not-le, not-le-of-lt, le-div-iff-mul-le, le-antisymm}
+use native.Mathlib.Nat.{mul-add, add-mul, add-assoc, mul-comm, mul-assoc, two-mul, mul-le-mul, pow-suc, pow-succ', le-trans, le-of-lt, lt-of-lt-of-le, lt-of-not-le, not-le-of-lt, le-div-iff-mul-le, le-antisymm, pos-of-ne-zero}
 use native.Mathlib.Decide.{decLe}
 use native.Mathlib.Omega.{arith}
-use borrow.Author.Tests.{le-leb, lt-leb}
-use lib.Dec.{leb}
+use borrow.Author.Tests.{le-leb, lt-leb, eq-eqb, ne-eqb}
+use mathlib.Core.Bool.{cond}
+use lib.Count.{leading-top}
+use lib.Dec.{leb, eqb}
 use lib.Pow.{pow-add, pow-mono}
-use Rattle.arith.specs.Root.{grown, floorRoot, nearestRoot, IsRoot, FirstBound, Largest, NearestRootOf}
+use Rattle.arith.specs.Root.{grown, floorRoot, nearestRoot, IsRoot, bitLength, firstBound, Largest, NearestRootOf}
 
 -- the square of a sum
 square-add : (a b : ℕ) → (a + b) * (a + b) ≡ a * a + 2 * (a * b) + b * b
@@ -86,9 +88,15 @@ root-le {y} q m low high = go (decLe q m)
 pub root-unique : {y p q : ℕ} → IsRoot y p → IsRoot y q → p ≡ q
 root-unique {y} {p} {q} i j = le-antisymm (root-le p q (i .low) (j .high)) (root-le q p (j .low) (i .high))
 
--- A number of j + 1 bits has its root below 2 ^ (j / 2) + 1
-pub bound-of-length : (y j : ℕ) → y < 2 ^ suc j → j < 64 → FirstBound y (2 ^ (j / 2) + 1)
-bound-of-length y j short fits =
+-- b is above the root of y, and no higher than the search can square
+pub record AboveRoot (y b : ℕ) : Type 0 where
+  pub above : y < (2 * b - 1) * (2 * b - 1)
+  pub some : 1 ≤ b
+  pub small : b ≤ 2147483649
+
+-- a number of j + 1 bits has its root below 2 ^ (j / 2) + 1
+above-length : (y j : ℕ) → y < 2 ^ suc j → j < 64 → AboveRoot y (2 ^ (j / 2) + 1)
+above-length y j short fits =
     let k : ℕ = j / 2 in
     let double : 2 ^ suc k ≡ 2 * 2 ^ k = pow-succ' 2 k in
     let square : 2 ^ (suc k + suc k) ≡ 2 ^ suc k * 2 ^ suc k = pow-add 2 (suc k) (suc k) in
@@ -98,6 +106,25 @@ bound-of-length y j short fits =
     let half : k ≤ 31 = omega arith in
     let small : 2 ^ k ≤ 2147483648 = pow-mono half in
     record { above = omega arith; some = omega arith; small = omega arith }
+
+-- the length in bits of a number that is not 0
+pub bit-length : (y : ℕ) → y < 2 ^ 64 → (y ≡ 0 → ⊥) → (1 ≤ bitLength y) × ((y < 2 ^ suc (bitLength y - 1)) × (bitLength y - 1 < 64))
+bit-length y fits some =
+    let top = leading-top 64 y (pos-of-ne-zero some) fits in
+    let length : bitLength y - 1 ≡ top .0 = omega (arith, top .1) in
+    (omega (arith, top .1), (rw length (top .3), rw length (omega (arith, top .1))))
+
+-- The search begins above the root
+pub first-above : (y : ℕ) → y < 2 ^ 64 → AboveRoot y (firstBound y)
+unfolding firstBound
+first-above y fits = go (decLe y 0)
+  where
+    go : Dec (y ≤ 0) → AboveRoot y (cond (eqb y 0) 1 (2 ^ ((bitLength y - 1) / 2) + 1))
+    go (yes none) = rw (eq-eqb y 0 (omega arith)) (record { above = omega arith; some = omega arith; small = omega arith })
+    go (no h) =
+        let some : y ≡ 0 → ⊥ = λ e. h (omega arith) in
+        let (long, (short, few)) = bit-length y fits some in
+        rw (ne-eqb y 0 some) (above-length y (bitLength y - 1) short few)
 
 -- Line 14's own words: the largest q with (2q - 1)² d at most n
 pub root-largest : (n d : ℕ) → 0 < d → n / d < 2 ^ 64 → Largest (λ q. (2 * q - 1) * (2 * q - 1) * d ≤ n) (nearestRoot (n / d))

@@ -1,7 +1,8 @@
 -- The nearest root, worked a base-4 digit at a time, and what makes a number a root.
 use Prim.Native.Nat.{ℕ, zero, suc, _+_, _-_, _*_, _/_, _^_, _≤_, _<_}
-use mathlib.Core.Bool.{Bool, true, false}
-use lib.Dec.{leb}
+use mathlib.Core.Bool.{Bool, true, false, cond}
+use lib.Count.{leadingZeros}
+use lib.Dec.{leb, eqb}
 
 -- r, or one more where its square is still at most y
 unfoldable pub grown : Bool → ℕ → ℕ
@@ -24,11 +25,13 @@ pub record IsRoot (y q : ℕ) : Type 0 where
   pub low : (2 * q - 1) * (2 * q - 1) ≤ y
   pub high : y < (2 * q + 1) * (2 * q + 1)
 
--- a whole number b that is above the root, and no higher than the search can square
-pub record FirstBound (y b : ℕ) : Type 0 where
-  pub above : y < (2 * b - 1) * (2 * b - 1)
-  pub some : 1 ≤ b
-  pub small : b ≤ 2147483649
+-- the length in bits of a number below 2 ^ 64
+abbrev pub bitLength : ℕ → ℕ
+bitLength y = 64 - leadingZeros 64 y
+
+-- where the search for the root begins, from that length: of a number of j + 1 bits, 2 ^ (j / 2) + 1
+unfoldable pub firstBound : ℕ → ℕ
+firstBound y = cond (eqb y 0) 1 (2 ^ ((bitLength y - 1) / 2) + 1)
 
 -- q is the whole number nearest the square root of x: the root lies on q's side of the middle between q and any other p
 abbrev pub NearestRootOf : ℕ → ℕ → Type 0

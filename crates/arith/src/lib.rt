@@ -4,7 +4,7 @@
 ghost use mathlib.Core.Path.{_≡_};
 ghost use Prim.Native.Nat.{_-_, _<_, min, max};
 ghost use Rattle.arith.specs.Rounding.{roundDiv};
-ghost use Rattle.arith.specs.Root.{nearestRoot, FirstBound};
+ghost use Rattle.arith.specs.Root.{nearestRoot, firstBound};
 
 // What is left of a after b is taken, 0 where b is more.
 pub fn less(a: u64, b: u64) -> u64
@@ -58,7 +58,7 @@ pub fn nearest_root(y: u64) -> u64
 
 // A bound above the root, from the length of y in bits.
 fn first_bound(y: u64) -> u64
-    ensures { λ r. ⌜ FirstBound y r ⌝ }
+    ensures { λ r. ⌜ r ≡ firstBound y ⌝ }
 {
     if y == 0 {
         return 1;

@@ -1,2 +1,3 @@
 -- The laws of arrays, which the layers above cite.
 pub mod Arrays
+pub mod Filled

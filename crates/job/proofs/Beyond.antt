@@ -9,6 +9,7 @@ use borrow.Author.Tests.{leb-true, leb-false, lt-leb}
 use lib.Dec.{leb, ltb, lit≤}
 use lib.ListN.{length, drop, take, length-drop, length-append, take-append-drop}
 use lib.Seq.{take-all, take-take, length-take-le}
+use Rattle.readings.specs.Ranges.{greatestRunCount, greatestCertificateCount}
 use Rattle.fields.specs.declared.trouble.Trouble.{Trouble}
 use Rattle.fields.specs.declared.trouble.Trouble.the-variants.{Clear, At}
 use Rattle.fields.specs.Trouble.{first, troubleUnless, repeated, wrongSeconds, leftOver, Row, checks, from, upTo}
@@ -17,13 +18,16 @@ use Rattle.records.specs.declared.Counts.{Counts}
 use Rattle.records.specs.declared.Point.{Point}
 use Rattle.records.specs.declared.Segment.{Segment}
 use Rattle.records.proofs.Sums.{sum-ext}
-use Rattle.parts.specs.declared.header.RunHeader.{RunHeader}
-use Rattle.parts.specs.Values.{headerAt, pointPlace, segmentPlace, pointTotal, segmentTotal, runEnd, certificatePlace, certificateOf}
-use Rattle.parts.specs.Rows.{certificateRows, headerRows, pointRows, segmentRows, recordTrouble}
-use Rattle.parts.proofs.Layouts.{whole-at}
+use Rattle.records.specs.declared.RunHeader.{RunHeader}
+use Rattle.heads.specs.Values.{headerAt, certificatePlace, certificateOf, runHeaderSize}
+use Rattle.parts.specs.Values.{pointPlace, segmentPlace, pointTotal, segmentTotal, runEnd}
+use Rattle.fields.specs.Trouble.{recordTrouble}
+use Rattle.heads.specs.Rows.{certificateRows}
+use Rattle.parts.specs.Rows.{pointRows, segmentRows}
+use Rattle.fields.proofs.RecordTrouble.{whole-at}
 use Rattle.job.specs.Places.{certificateCountOf, runCountOf, nextStart, runStart}
 use Rattle.job.specs.Troubles.{fileTrouble, sameCertificate, entryTrouble, certificatesTrouble, goodSeconds, partsTrouble, numberBefore, runTrouble, runsTrouble, endTrouble, jobTrouble}
-use Rattle.job.proofs.Fronts.{Front, front-of, front-same, certificate-count-front, run-count-front, file-rows-front, certificate-front, header-front, point-front, segment-front, weighing-rows-front}
+use Rattle.job.proofs.Fronts.{Front, front-of, front-same, certificate-count-front, run-count-front, file-rows-front, certificate-front, header-front, header-rows-front, point-front, segment-front, weighing-rows-front}
 use Rattle.job.proofs.LookBack.{any-ext}
 use Rattle.job.proofs.Reach.{longestRun, longestJob, Few, few-parts, start-reach}
 use Rattle.job.proofs.WholeFile.{certificate-count, run-count}
@@ -94,10 +98,10 @@ module _ (p a b : List ℕ) (whole : length p ≡ longestJob) (more : 1 ≤ leng
 
   -- Certificates
 
-  certificate-same : (k : ℕ) → k < 64 → certificateOf (p ++ a) k ≡ certificateOf (p ++ b) k
+  certificate-same : (k : ℕ) → k < greatestCertificateCount → certificateOf (p ++ a) k ≡ certificateOf (p ++ b) k
   certificate-same k h = same-at certificate-front (certificatePlace k) (omega arith)
 
-  entry-same : (k : ℕ) → k < 64 → entryTrouble (p ++ a) k ≡ entryTrouble (p ++ b) k
+  entry-same : (k : ℕ) → k < greatestCertificateCount → entryTrouble (p ++ a) k ≡ entryTrouble (p ++ b) k
   entry-same k h =
       first-same _ _ _ (record-same (front-of certificateRows certificate-front) (certificatePlace k) (omega arith))
       (λ own.
@@ -126,7 +130,7 @@ module _ (p a b : List ℕ) (whole : length p ≡ longestJob) (more : 1 ≤ leng
   parts-same : (start : ℕ) (n : Counts) → start + longestRun ≤ longestJob → Few n → partsTrouble (p ++ a) start n ≡ partsTrouble (p ++ b) start n
   unfolding partsTrouble
   parts-same start n h few =
-      first-same _ _ _ (row-same (front-of pointRows point-front) (start + 64) (n .points) (omega arith))
+      first-same _ _ _ (row-same (front-of pointRows point-front) (start + runHeaderSize) (n .points) (omega arith))
       (λ clear.
       first-same _ _ _ (row-same (front-of segmentRows segment-front) (pointPlace start (n .points)) (n .segments) (omega arith))
       (λ clear.
@@ -136,17 +140,17 @@ module _ (p a b : List ℕ) (whole : length p ≡ longestJob) (more : 1 ≤ leng
   run-same : (start lower : ℕ) → start + longestRun ≤ longestJob → runTrouble (p ++ a) start lower ≡ runTrouble (p ++ b) start lower
   unfolding runTrouble
   run-same start lower h =
-      first-same _ _ _ (record-same (front-of headerRows header-front) start (omega arith))
+      first-same _ _ _ (record-same header-rows-front start (omega arith))
       (λ own.
       ap (first _) (parts-same start (headerAt (p ++ a) start .counts) h (few-parts (p ++ a) start own))
       ∙ ap (λ (x : RunHeader). first (troubleUnless (ltb lower (x .number)) repeated start) (partsTrouble (p ++ b) start (x .counts))) (header-same start h))
 
   -- a run starts at the same place if those before it are clear
   module _ (file : fileTrouble (p ++ a) ≡ Clear) where
-    start-room : (k : ℕ) → k < 16 → runsTrouble (p ++ a) k ≡ Clear → runStart (p ++ a) k + longestRun ≤ longestJob
+    start-room : (k : ℕ) → k < greatestRunCount → runsTrouble (p ++ a) k ≡ Clear → runStart (p ++ a) k + longestRun ≤ longestJob
     start-room k h clear = omega (arith, start-reach (p ++ a) file k clear)
 
-    start-same : (k : ℕ) → k ≤ 16 → runsTrouble (p ++ a) k ≡ Clear → runStart (p ++ a) k ≡ runStart (p ++ b) k
+    start-same : (k : ℕ) → k ≤ greatestRunCount → runsTrouble (p ++ a) k ≡ Clear → runStart (p ++ a) k ≡ runStart (p ++ b) k
     unfolding runStart upTo
     start-same zero h clear = ap certificatePlace certificate-count-same
     start-same (suc k) h clear =
@@ -154,7 +158,7 @@ module _ (p a b : List ℕ) (whole : length p ≡ longestJob) (more : 1 ≤ leng
         ap (λ (x : RunHeader). runEnd (runStart (p ++ a) k) (x .counts)) (header-same (runStart (p ++ a) k) (start-room k h earlier))
         ∙ ap (nextStart (p ++ b)) (start-same k (omega arith) earlier)
 
-    number-same : (k : ℕ) → k ≤ 16 → runsTrouble (p ++ a) k ≡ Clear → numberBefore (p ++ a) k ≡ numberBefore (p ++ b) k
+    number-same : (k : ℕ) → k ≤ greatestRunCount → runsTrouble (p ++ a) k ≡ Clear → numberBefore (p ++ a) k ≡ numberBefore (p ++ b) k
     unfolding numberBefore upTo
     number-same zero h clear = refl
     number-same (suc k) h clear =
@@ -167,8 +171,8 @@ module _ (p a b : List ℕ) (whole : length p ≡ longestJob) (more : 1 ≤ leng
         let few = run-count (p ++ a) file in
         up-same _ _ _
         (λ k h clear.
-        let below : k < 16 = omega arith in
-        let within : k ≤ 16 = omega arith in
+        let below : k < greatestRunCount = omega arith in
+        let within : k ≤ greatestRunCount = omega arith in
         run-same (runStart (p ++ a) k) (numberBefore (p ++ a) k) (start-room k below clear)
         ∙ ap₂ (runTrouble (p ++ b)) (start-same k within clear) (number-same k within clear))
         ∙ ap (runsTrouble (p ++ b)) run-count-same

@@ -8,18 +8,20 @@ use native.Mathlib.Nat.{lt-trans, lt-suc-self, le-of-suc-le-suc, le-antisymm, eq
 use native.Mathlib.Omega.{arith}
 use borrow.Author.Tests.{leb-true, eq-eqb, not-true}
 use lib.ListN.{length}
+use Rattle.readings.specs.Ranges.{leastPointCount, greatestPointCount, leastSegmentCount, greatestSegmentCount, greatestWeighingCount}
 use Rattle.fields.specs.declared.trouble.Trouble.the-variants.{Clear}
 use Rattle.fields.proofs.FirstTrouble.{clear-left, clear-right, unless-clear, each-clear}
 use Rattle.readings.proofs.Ranges.{within-greatest}
 use Rattle.records.specs.declared.Identity.{Identity}
 use Rattle.records.specs.Records.{sameIdentity}
-use Rattle.records.specs.InRange.{RunOk}
+use Rattle.records.specs.InRange.{CertificateOk, RunOk}
 use Rattle.records.proofs.Identities.{same-refl}
-use Rattle.parts.specs.Values.{headerAt, runAt, RunWithin, certificatePlace, certificateOf}
-use Rattle.parts.specs.Ranges.{CertificateOk}
-use Rattle.parts.proofs.InRange.{certificate-ok, run-ok}
+use Rattle.heads.specs.Values.{headerAt, certificatePlace, certificateOf}
+use Rattle.parts.specs.Values.{runAt, RunWithin}
+use Rattle.heads.proofs.InRange.{certificate-ok}
+use Rattle.parts.proofs.InRange.{run-ok}
 use Rattle.job.specs.Places.{certificateCountOf, runCountOf, runStart, runOf}
-use Rattle.job.specs.Troubles.{fileTrouble, sameCertificate, stands, entryTrouble, certificatesTrouble, numberBefore, runsTrouble, jobTrouble}
+use Rattle.job.specs.Troubles.{fileTrouble, sameCertificate, repeats, entryTrouble, certificatesTrouble, numberBefore, runsTrouble, jobTrouble}
 use Rattle.job.proofs.ClearRuns.{RunClear, run-clear, run-fits}
 use Rattle.job.proofs.LookBack.{none-of}
 use Rattle.job.proofs.WholeFile.{certificates-fit}
@@ -61,26 +63,26 @@ run-within s e k h =
     let r = clear-run s e k h in
     record {
       end = run-fits s (runStart s k) (numberBefore s k) (each-clear _ _ (job-clear s e .runs) k h);
-      points = within-greatest 1 64 _ (r .countOfPoints);
-      segments = within-greatest 1 16 _ (r .countOfSegments);
-      weighings = within-greatest 0 8 _ (r .countOfWeighings);
+      points = within-greatest leastPointCount greatestPointCount _ (r .header .points);
+      segments = within-greatest leastSegmentCount greatestSegmentCount _ (r .header .segments);
+      weighings = within-greatest 0 greatestWeighingCount _ (r .header .weighings);
     }
 
-number-of : (s : List ℕ) (k : ℕ) → runOf s k .number ≡ headerAt s (runStart s k) .number
+number-of : (s : List ℕ) (k : ℕ) → runOf s k .header .number ≡ headerAt s (runStart s k) .number
 unfolding runAt
 number-of s k = refl
 
 -- a run's number is above that of the run before
-next-above : (s : List ℕ) → jobTrouble s ≡ Clear → (k : ℕ) → suc k < runCountOf s → runOf s k .number < runOf s (suc k) .number
+next-above : (s : List ℕ) → jobTrouble s ≡ Clear → (k : ℕ) → suc k < runCountOf s → runOf s k .header .number < runOf s (suc k) .header .number
 unfolding numberBefore
 next-above s e k h = rw (number-of s k, number-of s (suc k)) (each-run s e (suc k) h .above)
 
 -- and above that of every earlier run, so that a number names at most one run
-pub rising : (s : List ℕ) → jobTrouble s ≡ Clear → (i j : ℕ) → i < j → j < runCountOf s → runOf s i .number < runOf s j .number
+pub rising : (s : List ℕ) → jobTrouble s ≡ Clear → (i j : ℕ) → i < j → j < runCountOf s → runOf s i .header .number < runOf s j .header .number
 rising s e i zero less h = absurd (omega arith)
 rising s e i (suc j) less h =
     ⊎-elim
-    (λ same. subst (λ (k : ℕ). runOf s k .number < runOf s (suc j) .number) (sym same) (next-above s e j h))
+    (λ same. subst (λ (k : ℕ). runOf s k .header .number < runOf s (suc j) .header .number) (sym same) (next-above s e j h))
     (λ before. lt-trans (rising s e i j before (lt-trans (lt-suc-self j) h)) (next-above s e j h))
     (eq-or-lt-of-le (le-of-suc-le-suc less))
 
@@ -112,7 +114,7 @@ clear-certificate s e k h = certificate-ok s (certificatePlace k) (clear-left _ 
 -- no two certificates are the same ..
 pub none-same : (s : List ℕ) → jobTrouble s ≡ Clear → (i j : ℕ) → i < j → j < certificateCountOf s → sameCertificate (certificateOf s i) (certificateOf s j) ≡ false
 none-same s e i j less h =
-    let alone : stands s j ≡ false = not-true (stands s j) (unless-clear _ _ _ (clear-right _ _ (each-entry s e j h))) in
+    let alone : repeats s j ≡ false = not-true (repeats s j) (unless-clear _ _ _ (clear-right _ _ (each-entry s e j h))) in
     none-of _ j alone i less
 
 -- .. that is, no two agree in kind, identity and day

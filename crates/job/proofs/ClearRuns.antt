@@ -10,17 +10,19 @@ use lib.ListN.{length}
 use Rattle.fields.specs.declared.trouble.Trouble.the-variants.{Clear}
 use Rattle.fields.proofs.FirstTrouble.{clear-left, clear-right, unless-clear}
 use Rattle.readings.specs.Ranges.{totalSeconds}
-use Rattle.records.proofs.Identities.{both-left, both-right}
-use Rattle.parts.specs.Values.{headerAt, pointPlace, segmentPlace, pointTotal, segmentTotal}
-use Rattle.parts.specs.Rows.{headerTrouble, pointsTrouble, segmentsTrouble, weighingsTrouble}
-use Rattle.parts.proofs.Layouts.{complete-at, row-fits}
+use Rattle.readings.proofs.Ranges.{both-left, both-right}
+use Rattle.heads.specs.Values.{headerAt, runHeaderSize}
+use Rattle.parts.specs.Values.{pointPlace, segmentPlace, pointTotal, segmentTotal, pointSize, segmentSize, weighingSize}
+use Rattle.heads.specs.Rows.{headerTrouble}
+use Rattle.parts.specs.Rows.{pointsTrouble, segmentsTrouble, weighingsTrouble}
+use Rattle.fields.proofs.RecordTrouble.{complete-at, row-fits}
 use Rattle.job.specs.Places.{nextStart, runStart}
 use Rattle.job.specs.Troubles.{partsTrouble, runTrouble, numberBefore}
 
 pub record RunClear (s : List ℕ) (start lower : ℕ) : Type 0 where
   pub header : headerTrouble s start ≡ Clear
   pub above : lower < headerAt s start .number
-  pub points : pointsTrouble s (start + 64) (headerAt s start .counts .points) ≡ Clear
+  pub points : pointsTrouble s (start + runHeaderSize) (headerAt s start .counts .points) ≡ Clear
   pub segments : segmentsTrouble s (pointPlace start (headerAt s start .counts .points)) (headerAt s start .counts .segments) ≡ Clear
   pub weighings : weighingsTrouble s (segmentPlace start (headerAt s start .counts) (headerAt s start .counts .segments)) (headerAt s start .counts .weighings) ≡ Clear
   pub total : totalSeconds (pointTotal s start (headerAt s start .counts)) ≡ true
@@ -45,15 +47,15 @@ run-clear s start lower e =
     }
 
 -- its own 64 bytes lie within the file, and so does all of it
-pub header-fits : (s : List ℕ) (start lower : ℕ) → runTrouble s start lower ≡ Clear → start + 64 ≤ length s
-header-fits s start lower e = complete-at s start 64 _ (lit≤ tt) (run-clear s start lower e .header)
+pub header-fits : (s : List ℕ) (start lower : ℕ) → runTrouble s start lower ≡ Clear → start + runHeaderSize ≤ length s
+header-fits s start lower e = complete-at s start runHeaderSize _ (lit≤ tt) (run-clear s start lower e .header)
 
 pub run-fits : (s : List ℕ) (start lower : ℕ) → runTrouble s start lower ≡ Clear → nextStart s start ≤ length s
 run-fits s start lower e =
     let r = run-clear s start lower e in
-    row-fits s _ 14 _ _ (lit≤ tt)
-    (row-fits s _ 4 _ _ (lit≤ tt)
-    (row-fits s _ 12 _ _ (lit≤ tt) (header-fits s start lower e) (r .points))
+    row-fits s _ weighingSize _ _ (lit≤ tt)
+    (row-fits s _ segmentSize _ _ (lit≤ tt)
+    (row-fits s _ pointSize _ _ (lit≤ tt) (header-fits s start lower e) (r .points))
     (r .segments))
     (r .weighings)
 

@@ -6,9 +6,10 @@ use Rattle.fields.specs.Trouble.{first, checks, upTo}
 use Rattle.readings.specs.Ranges.{within, signedWithin}
 use Rattle.records.specs.Records.{sameIdentity, sumTo}
 use Rattle.records.specs.Worked.{workedCertificates, workedRun}
-use Rattle.parts.specs.Arrays.{padded}
-use Rattle.parts.specs.Values.{certificateOf, runAt}
-use Rattle.parts.specs.Rows.{recordTrouble}
+use Rattle.arrays.specs.Arrays.{padded}
+use Rattle.heads.specs.Values.{certificateOf}
+use Rattle.parts.specs.Values.{runAt}
+use Rattle.fields.specs.Trouble.{recordTrouble}
 use Rattle.job.specs.Places.{runStart, runOf}
 use Rattle.job.specs.Troubles.{anyTo, partsTrouble, runTrouble, numberBefore, jobTrouble}
 use Rattle.job.specs.Reading.{readJob}

@@ -7,7 +7,9 @@ use native.Mathlib.Omega.{arith}
 use lib.ListN.{length, getD, drop, length-drop}
 use lib.Seq.{drop-append-le}
 use Rattle.fields.specs.Numbers.{byteAt, u16At, u32At, i16At}
-use Rattle.parts.specs.Values.{certificate, header, point, segment, weighing}
+use Rattle.heads.specs.Values.{certificate, header, fileHeaderSize, certificateSize, runHeaderSize}
+use Rattle.parts.specs.Values.{point, segment, weighing, pointSize, segmentSize, weighingSize}
+use Rattle.heads.specs.Rows.{headerRows}
 use Rattle.parts.specs.Rows.{weighingRows}
 use Rattle.job.specs.Places.{certificateCountOf, runCountOf}
 use Rattle.job.specs.Troubles.{fileRows}
@@ -41,37 +43,42 @@ front-same {n = n} {f = f} front p a b at h =
 
 -- The header
 
-pub certificate-count-front : Front 9 certificateCountOf
+pub certificate-count-front : Front fileHeaderSize certificateCountOf
 unfolding u16At
 certificate-count-front = record { alone = λ c r t. refl }
 
-pub run-count-front : Front 9 runCountOf
+pub run-count-front : Front fileHeaderSize runCountOf
 unfolding u16At
 run-count-front = record { alone = λ c r t. refl }
 
-pub file-rows-front : Front 9 fileRows
+pub file-rows-front : Front fileHeaderSize fileRows
 unfolding u16At
 file-rows-front = record { alone = λ c r t. refl }
 
 -- The records
 
-pub certificate-front : Front 16 certificate
+pub certificate-front : Front certificateSize certificate
 unfolding u16At u32At
 certificate-front = record { alone = λ c r t. refl }
 
-pub header-front : Front 64 header
+pub header-front : Front runHeaderSize header
 unfolding u16At u32At i16At
 header-front = record { alone = λ c r t. refl }
 
-pub point-front : Front 12 point
+-- with the byte that is not used
+pub header-rows-front : Front runHeaderSize (λ t. headerRows (header t) (byteAt t 63))
+unfolding u16At u32At i16At
+header-rows-front = record { alone = λ c r t. refl }
+
+pub point-front : Front pointSize point
 unfolding u16At i16At
 point-front = record { alone = λ c r t. refl }
 
-pub segment-front : Front 4 segment
+pub segment-front : Front segmentSize segment
 unfolding u16At
 segment-front = record { alone = λ c r t. refl }
 
 -- with the byte that is not used
-pub weighing-rows-front : Front 14 (λ t. weighingRows (weighing t) (byteAt t 1))
+pub weighing-rows-front : Front weighingSize (λ t. weighingRows (weighing t) (byteAt t 1))
 unfolding u16At u32At
 weighing-rows-front = record { alone = λ c r t. refl }

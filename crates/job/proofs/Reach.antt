@@ -8,17 +8,21 @@ use native.Mathlib.Omega.{arith}
 use borrow.Author.Tests.{leb-false}
 use lib.Dec.{leb, ltb, lit≤}
 use lib.ListN.{length, drop, length-drop}
+use Rattle.parts.specs.Values.{pointSize, segmentSize, weighingSize}
+use Rattle.readings.specs.Ranges.{leastPointCount, greatestPointCount, leastSegmentCount, greatestSegmentCount, greatestWeighingCount, greatestCertificateCount}
 use Rattle.fields.specs.declared.trouble.Trouble.{Trouble}
 use Rattle.fields.specs.declared.trouble.Trouble.the-variants.{Clear, At}
 use Rattle.fields.specs.Trouble.{first, troubleUnless, incomplete, repeated, wrongSeconds, leftOver, Row, checks, troublePlace, from, upTo}
 use Rattle.fields.proofs.FirstTrouble.{each, clear-left, each-clear, checks-reach}
 use Rattle.readings.proofs.Ranges.{within-greatest}
 use Rattle.records.specs.declared.Counts.{Counts}
-use Rattle.parts.specs.Values.{headerAt, certificatePlace}
-use Rattle.parts.specs.Rows.{headerRows, recordTrouble, headerTrouble}
-use Rattle.parts.proofs.Layouts.{good-at}
+use Rattle.heads.proofs.InRange.{header-ok}
+use Rattle.heads.specs.Values.{headerAt, certificatePlace, fileHeaderSize, certificateSize, runHeaderSize}
+use Rattle.fields.specs.Trouble.{recordTrouble}
+use Rattle.heads.specs.Rows.{headerRows, headerTrouble}
+use Rattle.fields.proofs.RecordTrouble.{good-at}
 use Rattle.job.specs.Places.{runCountOf, runStart}
-use Rattle.job.specs.Troubles.{fileTrouble, stands, goodSeconds, entryTrouble, partsTrouble, numberBefore, runTrouble, runsTrouble, jobTrouble}
+use Rattle.job.specs.Troubles.{fileTrouble, repeats, goodSeconds, entryTrouble, partsTrouble, numberBefore, runTrouble, runsTrouble, jobTrouble}
 use Rattle.job.proofs.ClearRuns.{run-clear}
 use Rattle.job.proofs.WholeFile.{certificate-count, run-count}
 
@@ -69,44 +73,44 @@ row-reach s at size rows n {m} low room =
 
 -- Runs
 
--- the longest: 64 bytes, 64 points, 16 segments and 8 weighings
+-- the longest: a header, 64 points, 16 segments and 8 weighings
 abbrev pub longestRun : ℕ
 longestRun = 1008
 
 -- no more of each than that
 pub record Few (n : Counts) : Type 0 where
-  pub points : n .points ≤ 64
-  pub segments : n .segments ≤ 16
-  pub weighings : n .weighings ≤ 8
+  pub points : n .points ≤ greatestPointCount
+  pub segments : n .segments ≤ greatestSegmentCount
+  pub weighings : n .weighings ≤ greatestWeighingCount
 
--- as a run's 64 bytes say, if they are without trouble
+-- as a run's header says, if it is without trouble
 pub few-parts : (s : List ℕ) (start : ℕ) → headerTrouble s start ≡ Clear → Few (headerAt s start .counts)
 few-parts s start e =
-    let good = good-at s start 64 (headerRows (headerAt s start)) e .1 .1 .1 .1 .1 .1 .1 .1 .1 .1 .1 .1 .1 .1 .1 .1 .1 .1 .1 .1 in
+    let ok = header-ok s start e in
     record {
-      points = within-greatest 1 64 _ (good .0);
-      segments = within-greatest 1 16 _ (good .1 .0);
-      weighings = within-greatest 0 8 _ (good .1 .1 .0);
+      points = within-greatest leastPointCount greatestPointCount _ (ok .points);
+      segments = within-greatest leastSegmentCount greatestSegmentCount _ (ok .segments);
+      weighings = within-greatest 0 greatestWeighingCount _ (ok .weighings);
     }
 
 run-reach : (s : List ℕ) (start lower : ℕ) {m : ℕ} → start + longestRun ≤ m → troublePlace (runTrouble s start lower) ≤ m
 unfolding runTrouble partsTrouble
 run-reach s start lower {m} room =
-    first-reach _ _ (record-reach s start 64 _ refl (omega arith))
+    first-reach _ _ (record-reach s start runHeaderSize _ refl (omega arith))
     (λ header.
     let n = headerAt s start .counts in
     let few = few-parts s start header in
     first-reach _ _ (unless-reach (ltb lower (headerAt s start .number)) repeated start (omega arith))
     (λ above.
-    first-reach _ _ (row-reach s _ 12 _ (n .points) (λ i. refl) (omega arith))
+    first-reach _ _ (row-reach s _ pointSize _ (n .points) (λ i. refl) (omega arith))
     (λ points.
-    first-reach _ _ (row-reach s _ 4 _ (n .segments) (λ i. refl) (omega arith))
+    first-reach _ _ (row-reach s _ segmentSize _ (n .segments) (λ i. refl) (omega arith))
     (λ segments.
-    first-reach _ _ (row-reach s _ 14 _ (n .weighings) (λ i. refl) (omega arith))
+    first-reach _ _ (row-reach s _ weighingSize _ (n .weighings) (λ i. refl) (omega arith))
     (λ weighings. unless-reach (goodSeconds s start n) wrongSeconds start (omega arith))))))
 
 -- where a run starts if those before it are clear: after the header, at most 64 certificates and those runs
-pub start-reach : (s : List ℕ) → fileTrouble s ≡ Clear → (k : ℕ) → runsTrouble s k ≡ Clear → runStart s k ≤ 9 + 16 * 64 + longestRun * k
+pub start-reach : (s : List ℕ) → fileTrouble s ≡ Clear → (k : ℕ) → runsTrouble s k ≡ Clear → runStart s k ≤ certificatePlace greatestCertificateCount + longestRun * k
 unfolding runStart upTo
 start-reach s e zero clear = omega (arith, certificate-count s e)
 start-reach s e (suc k) clear =
@@ -120,15 +124,15 @@ start-reach s e (suc k) clear =
 abbrev pub longestJob : ℕ
 longestJob = 17161
 
-entry-reach : (s : List ℕ) (k : ℕ) {m : ℕ} → certificatePlace k + 16 ≤ m → troublePlace (entryTrouble s k) ≤ m
+entry-reach : (s : List ℕ) (k : ℕ) {m : ℕ} → certificatePlace k + certificateSize ≤ m → troublePlace (entryTrouble s k) ≤ m
 entry-reach s k room =
-    first-reach _ _ (record-reach s (certificatePlace k) 16 _ refl room)
-    (λ own. unless-reach (not (stands s k)) repeated (certificatePlace k) (omega arith))
+    first-reach _ _ (record-reach s (certificatePlace k) certificateSize _ refl room)
+    (λ own. unless-reach (not (repeats s k)) repeated (certificatePlace k) (omega arith))
 
 job-reach : (s : List ℕ) → troublePlace (jobTrouble s) ≤ longestJob
 unfolding jobTrouble
 job-reach s =
-    first-reach _ _ (record-reach s 0 9 _ refl (lit≤ tt))
+    first-reach _ _ (record-reach s 0 fileHeaderSize _ refl (lit≤ tt))
     (λ file.
     let certificates = certificate-count s file in
     let runs = run-count s file in

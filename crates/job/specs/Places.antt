@@ -3,7 +3,8 @@ use Prim.Native.Nat.{ℕ, zero, suc}
 use mathlib.Core.List.{List}
 use Rattle.fields.specs.Numbers.{u16At}
 use Rattle.records.specs.declared.Run.{Run}
-use Rattle.parts.specs.Values.{certificatePlace, headerAt, runAt, runEnd}
+use Rattle.heads.specs.Values.{certificatePlace, headerAt}
+use Rattle.parts.specs.Values.{runAt, runEnd}
 
 -- how many certificates and how many runs the header announces
 abbrev pub certificateCountOf : List ℕ → ℕ

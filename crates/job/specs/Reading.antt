@@ -2,16 +2,17 @@
 use Prim.Native.Nat.{ℕ}
 use mathlib.Core.List.{List}
 use lib.ListN.{replicate}
+use Rattle.readings.specs.Ranges.{greatestRunCount}
 use Rattle.fields.specs.declared.trouble.Trouble.{Trouble}
 use Rattle.fields.specs.declared.trouble.Trouble.the-variants.{Clear, At}
-use Rattle.parts.specs.Arrays.{padded}
+use Rattle.arrays.specs.Arrays.{padded}
 use Rattle.job.specs.declared.Job.{Job}
 use Rattle.job.specs.Places.{certificateCountOf, runCountOf, runStart}
 use Rattle.job.specs.Troubles.{jobTrouble}
 
 -- a job in trouble holds nothing
-abbrev pub refused : Trouble → Job
-refused t = record { trouble = t; certificates = 0; runs = 0; starts = replicate 16 0 }
+abbrev pub refusedJob : Trouble → Job
+refusedJob t = record { trouble = t; certificates = 0; runs = 0; starts = replicate greatestRunCount 0 }
 
 abbrev pub jobOf : Trouble → List ℕ → Job
 jobOf Clear s =
@@ -19,9 +20,9 @@ jobOf Clear s =
       trouble = Clear;
       certificates = certificateCountOf s;
       runs = runCountOf s;
-      starts = padded 16 0 (runStart s) (runCountOf s);
+      starts = padded greatestRunCount 0 (runStart s) (runCountOf s);
     }
-jobOf (At number place) s = refused (At number place)
+jobOf (At number place) s = refusedJob (At number place)
 
 unfoldable pub readJob : List ℕ → Job
 readJob s = jobOf (jobTrouble s) s

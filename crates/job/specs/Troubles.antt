@@ -11,8 +11,11 @@ use Rattle.readings.specs.Ranges.{certificateCount, runCount, totalSeconds}
 use Rattle.records.specs.declared.Certificate.{Certificate}
 use Rattle.records.specs.declared.Counts.{Counts}
 use Rattle.records.specs.Records.{sameIdentity}
-use Rattle.parts.specs.Values.{headerAt, pointPlace, segmentPlace, pointTotal, segmentTotal, certificatePlace, certificateOf}
-use Rattle.parts.specs.Rows.{recordTrouble, certificateTrouble, headerTrouble, pointsTrouble, segmentsTrouble, weighingsTrouble}
+use Rattle.heads.specs.Values.{headerAt, certificatePlace, certificateOf, fileHeaderSize, runHeaderSize}
+use Rattle.parts.specs.Values.{pointPlace, segmentPlace, pointTotal, segmentTotal}
+use Rattle.fields.specs.Trouble.{recordTrouble}
+use Rattle.heads.specs.Rows.{certificateTrouble, headerTrouble}
+use Rattle.parts.specs.Rows.{pointsTrouble, segmentsTrouble, weighingsTrouble}
 use Rattle.job.specs.Places.{certificateCountOf, runCountOf, runStart}
 
 -- The header
@@ -31,7 +34,7 @@ fileRows s =
     ∷ []
 
 abbrev pub fileTrouble : List ℕ → Trouble
-fileTrouble s = recordTrouble s 0 9 (fileRows s)
+fileTrouble s = recordTrouble s 0 fileHeaderSize (fileRows s)
 
 -- Certificates
 
@@ -45,12 +48,12 @@ anyTo f zero = false
 anyTo f (suc n) = anyTo f n || f n
 
 -- an earlier certificate is the same
-abbrev pub stands : List ℕ → ℕ → Bool
-stands s k = anyTo (λ j. sameCertificate (certificateOf s j) (certificateOf s k)) k
+abbrev pub repeats : List ℕ → ℕ → Bool
+repeats s k = anyTo (λ j. sameCertificate (certificateOf s j) (certificateOf s k)) k
 
 -- a certificate's fields, and then that it does not repeat an earlier one
 abbrev pub entryTrouble : List ℕ → ℕ → Trouble
-entryTrouble s k = first (certificateTrouble s (certificatePlace k)) (troubleUnless (not (stands s k)) repeated (certificatePlace k))
+entryTrouble s k = first (certificateTrouble s (certificatePlace k)) (troubleUnless (not (repeats s k)) repeated (certificatePlace k))
 
 abbrev pub certificatesTrouble : List ℕ → Trouble
 certificatesTrouble s = upTo (entryTrouble s) (certificateCountOf s)
@@ -64,7 +67,7 @@ goodSeconds s start n = totalSeconds (pointTotal s start n) && eqb (segmentTotal
 -- what follows a run's 64 bytes: points, segments, weighings, and then the seconds
 unfoldable pub partsTrouble : List ℕ → ℕ → Counts → Trouble
 partsTrouble s start n =
-    first (pointsTrouble s (start + 64) (n .points))
+    first (pointsTrouble s (start + runHeaderSize) (n .points))
     (first (segmentsTrouble s (pointPlace start (n .points)) (n .segments))
     (first (weighingsTrouble s (segmentPlace start n (n .segments)) (n .weighings))
     (troubleUnless (goodSeconds s start n) wrongSeconds start)))

@@ -24,26 +24,26 @@ times zero bytes = []
 times (suc n) bytes = bytes ++ times n bytes
 
 -- maker ABC and a serial
-abbrev pub abc : ℕ → List ℕ
-abc serial = (65 ∷ 66 ∷ 67 ∷ []) ++ le32 serial
+abbrev pub abcBytes : ℕ → List ℕ
+abcBytes serial = (65 ∷ 66 ∷ 67 ∷ []) ++ le32 serial
 
 -- "SRJ", the version, and how many certificates and runs
-abbrev pub header : ℕ → ℕ → ℕ → List ℕ
-header version certificates runs = (83 ∷ 82 ∷ 74 ∷ []) ++ le16 version ++ le16 certificates ++ le16 runs
+abbrev pub headerBytes : ℕ → ℕ → ℕ → List ℕ
+headerBytes version certificates runs = (83 ∷ 82 ∷ 74 ∷ []) ++ le16 version ++ le16 certificates ++ le16 runs
 
-abbrev pub certificate : ℕ → ℕ → ℕ → ℕ → ℕ → ℕ → List ℕ
-certificate kind serial day first second third = (kind ∷ []) ++ abc serial ++ le16 day ++ le16 first ++ le16 second ++ le16 third
+abbrev pub certificateBytes : ℕ → ℕ → ℕ → ℕ → ℕ → ℕ → List ℕ
+certificateBytes kind serial day first second third = (kind ∷ []) ++ abcBytes serial ++ le16 day ++ le16 first ++ le16 second ++ le16 third
 
 -- The worked job, its one segment lasting `seconds`
 abbrev pub lasting : ℕ → List ℕ
 lasting seconds =
-    header 1 4 1
-    ++ certificate 1 10442 8990 10000 0 0
-    ++ certificate 1 10442 9020 9800 0 0
-    ++ certificate 2 1 8990 840 0 0
-    ++ certificate 3 2 8990 250 250 250
+    headerBytes 1 4 1
+    ++ certificateBytes 1 10442 8990 10000 0 0
+    ++ certificateBytes 1 10442 9020 9800 0 0
+    ++ certificateBytes 2 1 8990 840 0 0
+    ++ certificateBytes 3 2 8990 250 250 250
     -- run 7, day 9000, meter, pitot, nozzle
-    ++ (le16 7 ++ le16 9000 ++ abc 10442 ++ abc 1 ++ abc 2)
+    ++ (le16 7 ++ le16 9000 ++ abcBytes 10442 ++ abcBytes 1 ++ abcBytes 2)
     -- Pb, Pg, CO2, O2, readings, water
     ++ (le16 3000 ++ minus16 68 ++ le16 120 ++ le16 60 ++ le32 100000 ++ le32 140000 ++ le16 1000)
     -- round, its sides, the distances
@@ -86,11 +86,11 @@ abbrev pub refusals : List Refusal
 refusals =
     refusal [] 1 0
     ∷ refusal (83 ∷ 82 ∷ 73 ∷ replicate 6 0) 2 0
-    ∷ refusal (header 2 0 1) 3 3
-    ∷ refusal (header 1 65 1) 4 5
-    ∷ refusal (header 1 0 0) 4 7
-    ∷ refusal (header 1 0 1 ++ replicate 64 0) 5 9
-    ∷ refusal (header 1 2 1 ++ times 2 (certificate 2 1 8990 840 0 0)) 6 25
+    ∷ refusal (headerBytes 2 0 1) 3 3
+    ∷ refusal (headerBytes 1 65 1) 4 5
+    ∷ refusal (headerBytes 1 0 0) 4 7
+    ∷ refusal (headerBytes 1 0 1 ++ replicate 64 0) 5 9
+    ∷ refusal (headerBytes 1 2 1 ++ times 2 (certificateBytes 2 1 8990 840 0 0)) 6 25
     ∷ refusal (lasting 3599) 7 73
     ∷ refusal (workedJob ++ (0 ∷ [])) 8 265
     ∷ []

@@ -1,13 +1,14 @@
 // The certificates of a job: each in itself, and none that repeats an earlier one.
 
 use fields::trouble::Trouble;
-use parts::certificate;
+use heads::certificate;
 use records::Certificate;
 ghost use mathlib.Core.Path.{_≡_};
 ghost use Prim.Native.Nat.{_<_, _≤_};
 ghost use lib.ListN.{length};
+ghost use Rattle.readings.specs.Ranges.{greatestCertificateCount};
 ghost use Rattle.fields.specs.Trouble.{upTo};
-ghost use Rattle.parts.specs.Values.{certificatePlace, certificateOf};
+ghost use Rattle.heads.specs.Values.{certificatePlace, certificateOf};
 ghost use Rattle.job.specs.Troubles.{sameCertificate, anyTo, entryTrouble};
 
 // Kind, maker, serial and day all count.
@@ -26,7 +27,7 @@ fn same(a: Certificate, b: Certificate) -> bool
 }
 
 // Whether one of the first `n` certificates of the file is the same as `c`.
-fn stands(s: &[u8], n: usize, c: Certificate) -> bool
+fn repeats(s: &[u8], n: usize, c: Certificate) -> bool
     requires { ⌜ certificatePlace n ≤ length (now s) ⌝ }
     ensures { λ r. ⌜ r ≡ anyTo (λ j. sameCertificate (certificateOf (now (s .entry)) j) c) n ⌝ }
 {
@@ -42,20 +43,24 @@ fn stands(s: &[u8], n: usize, c: Certificate) -> bool
 
 // The trouble of certificate `k`. It is compared with the earlier ones only where it is complete.
 fn entry_trouble(s: &[u8], k: usize) -> Trouble
-    requires { ⌜ k < 64 ⌝ }
+    requires { ⌜ k < greatestCertificateCount ⌝ }
     ensures { λ r. ⌜ r ≡ entryTrouble (now (s .entry)) k ⌝ }
 {
-    let at = certificate::FIRST_AT + certificate::SIZE * k;
+    let at = heads::FILE_HEADER_SIZE + certificate::SIZE * k;
     let t = certificate::trouble(s, at);
     let Trouble::Clear = t else {
         return t;
     };
-    t.unless(!stands(s, k, certificate::nth(s, k)), Trouble::REPEATED, at)
+    t.unless(
+        !repeats(s, k, certificate::nth(s, k)),
+        Trouble::REPEATED,
+        at,
+    )
 }
 
 // The first trouble of the `n` certificates of the file.
 pub fn troubles(s: &[u8], n: usize) -> Trouble
-    requires { ⌜ n ≤ 64 ⌝ }
+    requires { ⌜ n ≤ greatestCertificateCount ⌝ }
     ensures { λ r. ⌜ r ≡ upTo (entryTrouble (now (s .entry))) n ⌝ }
 {
     let mut k = 0;

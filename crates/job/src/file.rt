@@ -7,9 +7,8 @@ use readings::headers::RunCount;
 ghost use mathlib.Core.Path.{_≡_};
 ghost use Prim.Native.Nat.{_≤_};
 ghost use lib.ListN.{length};
+ghost use Rattle.heads.specs.Values.{fileHeaderSize};
 ghost use Rattle.job.specs.Troubles.{marked, fileTrouble};
-
-const SIZE: usize = 9;
 
 const VERSION: u16 = 1;
 
@@ -20,7 +19,7 @@ pub const RUNS_AT: usize = 7;
 
 // Whether the file begins with "SRJ".
 fn marked(s: &[u8]) -> bool
-    requires { ⌜ 9 ≤ length (now s) ⌝ }
+    requires { ⌜ fileHeaderSize ≤ length (now s) ⌝ }
     ensures { λ r. ⌜ r ≡ marked (now (s .entry)) ⌝ }
 {
     if numbers::byte(s, 0) != 83 {
@@ -35,7 +34,7 @@ fn marked(s: &[u8]) -> bool
 pub fn trouble(s: &[u8]) -> Trouble
     ensures { λ r. ⌜ r ≡ fileTrouble (now (s .entry)) ⌝ }
 {
-    if s.len() < SIZE {
+    if s.len() < heads::FILE_HEADER_SIZE {
         return Trouble::At(Trouble::INCOMPLETE, s.len());
     }
     let t = Trouble::Clear;

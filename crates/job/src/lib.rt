@@ -7,26 +7,27 @@ mod runs;
 
 use fields::numbers;
 use fields::trouble::Trouble;
-use parts::certificate;
+use heads::certificate;
+use readings::headers::RunCount;
 ghost use mathlib.Core.Path.{_≡_};
-ghost use Rattle.job.specs.Reading.{refused, readJob};
+ghost use Rattle.job.specs.Reading.{refusedJob, readJob};
 
 // What a file holds. A job in trouble holds nothing: no certificates, no runs, and zeros for places.
 pub struct Job {
     pub trouble: Trouble,
     pub certificates: usize,
     pub runs: usize,
-    pub starts: [usize; 16],
+    pub starts: [usize; RunCount::GREATEST as usize],
 }
 
-fn refused(t: Trouble) -> Job
-    ensures { λ r. ⌜ r ≡ refused t ⌝ }
+fn refused_job(t: Trouble) -> Job
+    ensures { λ r. ⌜ r ≡ refusedJob t ⌝ }
 {
     Job {
         trouble: t,
         certificates: 0,
         runs: 0,
-        starts: [0usize; 16],
+        starts: [0usize; RunCount::GREATEST as usize],
     }
 }
 
@@ -36,19 +37,19 @@ pub fn read(s: &[u8]) -> Job
 {
     let t = file::trouble(s);
     let Trouble::Clear = t else {
-        return refused(t);
+        return refused_job(t);
     };
     let certificates = numbers::u16_at(s, file::CERTIFICATES_AT) as usize;
     let runs = numbers::u16_at(s, file::RUNS_AT) as usize;
     let t = certificates::troubles(s, certificates);
     let Trouble::Clear = t else {
-        return refused(t);
+        return refused_job(t);
     };
-    let first = certificate::FIRST_AT + certificate::SIZE * certificates;
+    let first = heads::FILE_HEADER_SIZE + certificate::SIZE * certificates;
     let w = runs::read(s, first, runs);
     let t = w.trouble;
     let Trouble::Clear = t else {
-        return refused(t);
+        return refused_job(t);
     };
     let starts = w.starts;
     Job {

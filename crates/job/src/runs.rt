@@ -2,24 +2,27 @@
 
 use fields::numbers;
 use fields::trouble::Trouble;
-use parts::header;
+use heads::header;
 use parts::point;
 use parts::segment;
 use parts::weighing;
+use readings::headers::RunCount;
 use readings::points::TotalSeconds;
 use records::Counts;
 ghost use mathlib.Core.Path.{_≡_};
 ghost use Prim.Native.Nat.{_+_, _≤_};
 ghost use lib.ListN.{length};
+ghost use Rattle.heads.specs.Values.{runHeaderSize};
+ghost use Rattle.readings.specs.Ranges.{greatestRunCount};
 ghost use Rattle.parts.specs.Values.{segmentPlace};
 ghost use Rattle.job.specs.Places.{nextStart, runStart};
 ghost use Rattle.job.specs.Troubles.{goodSeconds, partsTrouble, runTrouble};
-ghost use Rattle.job.specs.Walks.{WalkIs};
+ghost use Rattle.job.specs.Walks.{stopped, walk};
 
-// Where each run starts: complete only where there is no trouble.
+// Where each run starts; zeros where there is trouble.
 pub struct Walk {
     pub trouble: Trouble,
-    pub starts: [usize; 16],
+    pub starts: [usize; RunCount::GREATEST as usize],
 }
 
 fn good_seconds(s: &[u8], start: usize, n: Counts) -> bool
@@ -37,9 +40,9 @@ fn good_seconds(s: &[u8], start: usize, n: Counts) -> bool
     by_segments == by_points
 }
 
-// The trouble of what follows a run's own 64 bytes.
+// The trouble of what follows a run's header.
 fn parts_trouble(s: &[u8], start: usize, n: Counts) -> Trouble
-    requires { ⌜ start + 64 ≤ length (now s) ⌝ }
+    requires { ⌜ start + runHeaderSize ≤ length (now s) ⌝ }
     ensures { λ r. ⌜ r ≡ partsTrouble (now (s .entry)) start n ⌝ }
 {
     let points = n.points as usize;
@@ -79,7 +82,7 @@ fn run_trouble(s: &[u8], start: usize, lower: u16) -> Trouble
 
 // The place after the run that starts at `start`.
 fn next_start(s: &[u8], start: usize) -> usize
-    requires { ⌜ start + 64 ≤ length (now s) ⌝ }
+    requires { ⌜ start + runHeaderSize ≤ length (now s) ⌝ }
     ensures { λ r. ⌜ r ≡ nextStart (now (s .entry)) start ⌝ }
 {
     let n = header::counts(numbers::tail(s, start));
@@ -88,28 +91,39 @@ fn next_start(s: &[u8], start: usize) -> usize
     at_weighings + weighing::SIZE * (n.weighings as usize)
 }
 
+fn stopped(t: Trouble) -> Walk
+    ensures { λ r. ⌜ r ≡ stopped t ⌝ }
+{
+    Walk {
+        trouble: t,
+        starts: [0usize; RunCount::GREATEST as usize],
+    }
+}
+
 // The `n` runs of the file, the first of which starts at `first`, up to the first in trouble.
 pub fn read(s: &[u8], first: usize, n: usize) -> Walk
-    requires { ⌜ (n ≤ 16) × (first ≡ runStart (now s) 0) × (first ≤ length (now s)) ⌝ }
-    ensures { λ r. ⌜ WalkIs (now (s .entry)) n r ⌝ }
+    requires { ⌜ (n ≤ greatestRunCount) × (first ≡ runStart (now s) 0) × (first ≤ length (now s)) ⌝ }
+    ensures { λ r. ⌜ r ≡ walk (now (s .entry)) n ⌝ }
 {
-    let mut starts = [0usize; 16];
+    let mut starts = [0usize; RunCount::GREATEST as usize];
     let mut at = first;
     let mut lower: u16 = 0;
     let mut k = 0;
     while k < n {
         let t = run_trouble(s, at, lower);
         let Trouble::Clear = t else {
-            return Walk { trouble: t, starts };
+            return stopped(t);
         };
         starts[k] = at;
         lower = numbers::u16_at(numbers::tail(s, at), 0);
         at = next_start(s, at);
         k += 1;
     }
-    let t = Trouble::Clear;
+    if at < s.len() {
+        return stopped(Trouble::At(Trouble::LEFT_OVER, at));
+    }
     Walk {
-        trouble: t.unless(s.len() <= at, Trouble::LEFT_OVER, at),
+        trouble: Trouble::Clear,
         starts,
     }
 }

@@ -14,7 +14,7 @@ use Rattle.certs.proofs.Choosing.{chosenFor-same-members}
 use Rattle.findings.specs.Listing.{noFinding, accepted, linesFor, findingsFor, Breaks, Holds}
 use Rattle.findings.proofs.Accepting.{accepted-exactly}
 use Rattle.findings.proofs.Members.{listed-exactly}
-use Rattle.parts.specs.Values.{certificateOf}
+use Rattle.heads.specs.Values.{certificateOf}
 use Rattle.job.specs.Places.{certificateCountOf, runCountOf, runOf}
 use Rattle.job.specs.Troubles.{jobTrouble}
 use Rattle.job.proofs.ClearJobs.{unique, rising}

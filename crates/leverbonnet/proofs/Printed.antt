@@ -17,8 +17,8 @@ use Rattle.findings.specs.Listing.{brokenAt, findingAt, ruleFindings, findingsT
 use Rattle.findings.specs.Rules.{missing, moved, uneven, diameter, halfDiameter, undisturbed, minimumPoints, nextGrid, nextAllowed, judged, ofKind, certificateGrounds, siteGrounds, fieldGrounds, lineGrounds, weighingGrounds, groundOf, placesOf, placeOf, classOf}
 use Rattle.fields.specs.Numbers.{u16At, u32At, i16At}
 use Rattle.fields.specs.Trouble.{first, checks, upTo}
-use Rattle.parts.specs.Arrays.{padded}
-use Rattle.parts.specs.Rows.{recordTrouble}
+use Rattle.arrays.specs.Arrays.{padded}
+use Rattle.fields.specs.Trouble.{recordTrouble}
 use Rattle.parts.specs.Values.{runAt}
 use Rattle.job.specs.Places.{runStart}
 use Rattle.job.specs.Reading.{readJob}

@@ -5,7 +5,7 @@ use mathlib.Core.List.{List}
 use mathlib.Core.Logic.{_⊎_}
 use Rattle.fields.specs.declared.trouble.Trouble.the-variants.{Clear, At}
 use Rattle.certs.specs.Choosing.{SameForRun}
-use Rattle.parts.specs.Values.{certificateOf}
+use Rattle.heads.specs.Values.{certificateOf}
 use Rattle.job.specs.Places.{certificateCountOf, runCountOf, runOf}
 use Rattle.job.specs.Troubles.{jobTrouble}
 use Rattle.reduction.specs.Reducing.{reducedRun}

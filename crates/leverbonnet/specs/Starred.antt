@@ -10,7 +10,7 @@ use Rattle.traverse.specs.Positions.{position, starredPositions}
 use Rattle.records.specs.declared.Certificate.{Certificate}
 use Rattle.records.specs.declared.Run.{Run}
 use Rattle.records.specs.Worked.{workedCertificates, workedRun}
-use Rattle.parts.specs.Values.{certificateOf}
+use Rattle.heads.specs.Values.{certificateOf}
 use Rattle.job.specs.declared.Job.{Job}
 use Rattle.job.specs.Places.{runOf}
 use Rattle.job.specs.Reading.{readJob}

@@ -1,4 +1,3 @@
 -- The laws of the records, which the layers above cite.
-pub mod EarlyAnswers
 pub mod Identities
 pub mod Sums

@@ -10,7 +10,7 @@ use lib.ListN.{length, getD, drop}
 use Rattle.fields.specs.declared.trouble.Trouble.{Trouble}
 use Rattle.fields.specs.declared.trouble.Trouble.the-variants.{Clear, At}
 use Rattle.certs.specs.InRange.{CertificateOk}
-use Rattle.parts.proofs.Arrays.{pad-at}
+use Rattle.arrays.proofs.Arrays.{pad-at}
 use Rattle.parts.proofs.Places.{enough}
 use Rattle.job.specs.declared.Job.{Job}
 use Rattle.job.specs.Places.{certificateCountOf, runCountOf, runStart, runOf}
@@ -19,7 +19,8 @@ use Rattle.job.proofs.ClearJobs.{job-clear, clear-run, clear-certificate, run-w
 use Rattle.job.proofs.Reach.{places}
 use Rattle.job.proofs.WholeFile.{run-count}
 use Rattle.fields.specs.Numbers.{u16At}
-use Rattle.parts.specs.Values.{runAt, certificateOf, RunWithin}
+use Rattle.heads.specs.Values.{certificateOf}
+use Rattle.parts.specs.Values.{runAt, RunWithin}
 use Rattle.reduction.specs.declared.Which.{Which}
 use Rattle.reduction.specs.declared.Which.the-variants.{Run as RunAt, Nothing}
 use Rattle.job.specs.Troubles.{jobTrouble}

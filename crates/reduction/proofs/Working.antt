@@ -13,7 +13,7 @@ use Rattle.lines.specs.declared.Value.{Value}
 use Rattle.lines.specs.Promise.{Workable as WorkableLines}
 use Rattle.lines.specs.Sheet.{lines, sheet}
 use Rattle.certs.specs.declared.Chosen.{Chosen}
-use Rattle.parts.specs.Values.{certificateOf}
+use Rattle.heads.specs.Values.{certificateOf}
 use Rattle.certs.specs.Choosing.{chosenFor}
 use Rattle.certs.specs.Factor.{factorOf, coefficientOf, diametersOf}
 use Rattle.certs.specs.InRange.{ChosenOk}

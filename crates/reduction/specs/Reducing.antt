@@ -13,7 +13,7 @@ use Rattle.certs.specs.declared.Chosen.{Chosen}
 use Rattle.certs.specs.Choosing.{chosenFor}
 use Rattle.certs.specs.InRange.{CertificatesOk}
 use Rattle.findings.specs.Listing.{accepted, linesFor, findingsFor, listed}
-use Rattle.parts.specs.Values.{certificatePlace, certificateOf}
+use Rattle.heads.specs.Values.{certificatePlace, certificateOf}
 use Rattle.job.specs.declared.Job.{Job}
 use Rattle.job.specs.Places.{certificateCountOf, runCountOf, runOf}
 use Rattle.job.specs.Reading.{readJob}

@@ -9,7 +9,7 @@ use lines::Sheet;
 use lines::sheets;
 use records::Run;
 ghost use mathlib.Core.Path.{_≡_};
-ghost use Rattle.parts.specs.Values.{certificateOf};
+ghost use Rattle.heads.specs.Values.{certificateOf};
 ghost use Rattle.certs.specs.Choosing.{chosenFor};
 ghost use Rattle.reduction.specs.Reducing.{Workable, ClearJob, ClearRun, worked, runNamed, reducedRun};
 

@@ -1,4 +1,4 @@
--- A list that grows by equal parts, and the array that a loop fills with it.
+-- A list that grows by equal parts, and two of its numbers at a time in an array.
 use Prim.Native.Nat.{ℕ, zero, suc, _+_, _-_, _*_, _≤_, _<_}
 use mathlib.Core.Path.{_≡_, refl, sym, _∙_}
 use mathlib.Core.List.{List, [], _∷_, _++_, append-assoc}
@@ -8,7 +8,8 @@ use native.Mathlib.Numerals.{add-one}
 use native.Mathlib.Omega.{arith}
 use lib.ListN.{length, getD, set, replicate, length-append, List·getD-append}
 use lib.Seq.{set-append-seam, append-snoc, getD-append-add}
-use Rattle.traverse.specs.Layout.{eachTo, padded}
+use Rattle.arrays.proofs.Filled.{Filled, filled-more}
+use Rattle.traverse.specs.Layout.{eachTo, mostDistances}
 
 -- No part, and one part more, at the code's n + 1
 pub each-none : (f : ℕ → List ℕ) → eachTo f 0 ≡ []
@@ -43,33 +44,7 @@ module _ (f : ℕ → List ℕ) (k : ℕ) (equal : (i : ℕ) → length (f i) �
           let room : suc j * k ≤ n * k = mul-le-mul-right k less in
           List·getD-append (eachTo f n) (f (suc n)) 0 (j * k + i) (omega arith)
 
--- The next number of a list takes the first zero after it
-pad-more : (ds : List ℕ) (a : ℕ) → length ds < 98 → set (padded ds) (length ds) a ≡ padded (ds ++ (a ∷ []))
-unfolding padded
-pad-more ds a room =
-    let next : 98 - length ds ≡ suc (97 - length ds) = omega arith in
-    let size : length (ds ++ (a ∷ [])) ≡ length ds + 1 = length-append ds (a ∷ []) in
-    let rest : 98 - length (ds ++ (a ∷ [])) ≡ 97 - length ds = omega arith in
-    rw (next, set-append-seam ds 0 (replicate (97 - length ds) 0) a, rest, append-snoc ds a (replicate (97 - length ds) 0))
-
--- The array holds ds, and `at` is the next place
-pub record Filled (ds : List ℕ) (at : ℕ) (array : List ℕ) : Type 0 where
-  pub next : at ≡ length ds
-  pub holds : array ≡ padded ds
-
-pub filled-none : Filled [] 0 (replicate 98 0)
-unfolding padded
-filled-none = record { next = refl; holds = refl }
-
-pub filled-more : {ds : List ℕ} {at : ℕ} {array : List ℕ} (a : ℕ) → Filled ds at array → at < 98 → Filled (ds ++ (a ∷ [])) (at + 1) (set array at a)
-filled-more {ds} {at} {array} a t room =
-    let inside : length ds < 98 = omega (arith, t .next) in
-    record {
-      next = omega (arith, t .next, length-append ds (a ∷ []));
-      holds = rw (t .holds, t .next) (pad-more ds a inside);
-    }
-
 -- Two numbers more, at the end of the second of two lists
-pub filled-two : (xs ys : List ℕ) {at : ℕ} {array : List ℕ} (a b : ℕ) → Filled (xs ++ ys) at array → at + 1 < 98 → Filled (xs ++ (ys ++ (a ∷ b ∷ []))) (at + 2) (set (set array at a) (at + 1) b)
+pub filled-two : (xs ys : List ℕ) {at : ℕ} {array : List ℕ} (a b : ℕ) → Filled mostDistances 0 (xs ++ ys) at array → at + 1 < mostDistances → Filled mostDistances 0 (xs ++ (ys ++ (a ∷ b ∷ []))) (at + 2) (set (set array at a) (at + 1) b)
 filled-two xs ys {at = at} a b t room =
     simp (append-assoc, add-assoc) at (filled-more b (filled-more a t (omega arith)) room)

@@ -11,9 +11,9 @@ use lib.Dec.{leb, ltb, eqb}
 use Rattle.arith.specs.Root.{grown, floorRoot, nearestRoot}
 use Rattle.arith.proofs.Root.{nearest-is, root-le}
 use Rattle.readings.specs.Ranges.{within, diameterPoints}
-use Rattle.readings.proofs.Ranges.{within-least, within-greatest}
+use Rattle.readings.proofs.Ranges.{both-left, both-right, within-least, within-greatest}
 use Rattle.traverse.specs.Positions.{IsPosition, nearPosition, position}
-use Rattle.traverse.proofs.Tests.{and-left, and-right, allBelow, all-below}
+use Rattle.traverse.proofs.Tests.{allBelow, all-below}
 
 -- n points on a diameter
 pub record Points (n : ℕ) : Type 0 where
@@ -23,9 +23,9 @@ pub record Points (n : ℕ) : Type 0 where
 
 pub points-of : (n : ℕ) → diameterPoints n ≡ true → Points n
 points-of n e =
-    let range : within 2 24 n ≡ true = and-right (eqb (n % 2) 0) (within 2 24 n) e in
+    let range : within 2 24 n ≡ true = both-right (eqb (n % 2) 0) (within 2 24 n) e in
     record {
-      even = eqb-true _ _ (and-left (eqb (n % 2) 0) (within 2 24 n) e);
+      even = eqb-true _ _ (both-left (eqb (n % 2) 0) (within 2 24 n) e);
       least = within-least 2 24 n range;
       most = within-greatest 2 24 n range;
     }
@@ -57,11 +57,11 @@ unfolding right
 is-right n i p e =
     let low : Bool = ltb ((999 - 2 * p) * (999 - 2 * p) * n) (10 ^ 6 * (n - 2 * i + 1)) in
     let high : Bool = ltb (10 ^ 6 * (n - 2 * i + 1)) ((1001 - 2 * p) * (1001 - 2 * p) * n) in
-    let both : (low && high) ≡ true = and-right (leb p 499) (low && high) e in
+    let both : (low && high) ≡ true = both-right (leb p 499) (low && high) e in
     record {
-      near = leb-true _ _ (and-left (leb p 499) (low && high) e);
-      low = ltb-true _ _ (and-left low high both);
-      high = ltb-true _ _ (and-right low high both);
+      near = leb-true _ _ (both-left (leb p 499) (low && high) e);
+      low = ltb-true _ _ (both-left low high both);
+      high = ltb-true _ _ (both-right low high both);
     }
 
 -- the test of point k + 1 of 2m + 2

@@ -1,20 +1,19 @@
 -- Cells and centers of a rectangular stack: what a layout inside its ranges offers, and where the centers lie.
 use Prim.Native.Nat.{ℕ, _+_, _-_, _*_, _/_, _≤_, _<_}
 use mathlib.Core.Path.{_≡_, refl, sym, ap, _∙_}
-use mathlib.Core.Bool.{Bool, true, _&&_, _||_}
-use mathlib.Core.List.{[], _∷_}
-use mathlib.Core.Logic.{_⊎_, inl, inr}
-use native.Mathlib.Nat.{add-mul, mul-comm, mul-assoc, mul-mul-mul-comm, mul-le-mul, mul-le-mul-right, mul-div-left, le-refl, lt-of-not-le, lt-of-lt-of-le}
+use mathlib.Core.Bool.{Bool, true, _&&_}
+use native.Mathlib.Nat.{add-mul, mul-comm, mul-assoc, mul-mul-mul-comm, mul-le-mul, mul-le-mul-right, mul-div-left, le-refl, le-antisymm, lt-of-not-le, lt-of-lt-of-le}
 use native.Mathlib.Decide.{decLe}
 use native.Mathlib.Omega.{arith}
-use borrow.Author.Tests.{leb-true, eqb-true, ne-eqb, le-leb, lt-leb}
-use lib.Dec.{leb, eqb}
+use borrow.Author.Tests.{leb-true, ltb-true, eqb-true, le-leb, lt-leb}
+use lib.Dec.{leb, ltb, eqb}
 use Rattle.arith.specs.Rounding.{roundDiv}
 use Rattle.arith.proofs.Rounding.{round-is, round-le, le-round}
-use Rattle.readings.specs.Ranges.{oneOf, gridPoints, side}
-use Rattle.readings.proofs.Ranges.{within-least, within-greatest}
+use Rattle.readings.specs.Ranges.{side, leastSide, greatestSide}
+use Rattle.readings.specs.Grids.{gridNumbers, gridPoints}
+use Rattle.readings.proofs.Ranges.{both-left, both-right, within-least, within-greatest}
 use Rattle.traverse.specs.Rectangle.{rectangleFits, wideEnough, gridOf, firstCells, secondCells, center}
-use Rattle.traverse.proofs.Tests.{and-left, and-right, allOf, all-of}
+use Rattle.traverse.proofs.Tests.{allOf, all-of}
 
 -- a rectangular layout inside its ranges
 pub record RectangleOk (n first second : ℕ) : Type 0 where
@@ -28,15 +27,15 @@ pub rectangle-ok : (n first second : ℕ) → rectangleFits n first second ≡ t
 unfolding rectangleFits
 rectangle-ok n first second e =
     let wide : Bool = wideEnough first second in
-    let sides = and-right (gridPoints n) (side first && (side second && wide)) e in
-    let a : side first ≡ true = and-left (side first) (side second && wide) sides in
-    let b : side second ≡ true = and-left (side second) wide (and-right (side first) (side second && wide) sides) in
+    let sides = both-right (gridPoints n) (side first && (side second && wide)) e in
+    let a : side first ≡ true = both-left (side first) (side second && wide) sides in
+    let b : side second ≡ true = both-left (side second) wide (both-right (side first) (side second && wide) sides) in
     record {
-      points = and-left (gridPoints n) (side first && (side second && wide)) e;
-      firstLeast = within-least 1 9999 first a;
-      firstMost = within-greatest 1 9999 first a;
-      secondLeast = within-least 1 9999 second b;
-      secondMost = within-greatest 1 9999 second b;
+      points = both-left (gridPoints n) (side first && (side second && wide)) e;
+      firstLeast = within-least leastSide greatestSide first a;
+      firstMost = within-greatest leastSide greatestSide first a;
+      secondLeast = within-least leastSide greatestSide second b;
+      secondMost = within-greatest leastSide greatestSide second b;
     }
 
 -- a grid has n cells, and few of them on a side
@@ -54,7 +53,7 @@ right n =
     && (leb 1 (gridOf n .larger)
     && (leb (gridOf n .larger) 7 && (leb 1 (gridOf n .smaller) && leb (gridOf n .smaller) 7)))
 
-all-right : allOf right (9 ∷ 12 ∷ 16 ∷ 20 ∷ 25 ∷ 30 ∷ 36 ∷ 42 ∷ 49 ∷ []) ≡ true
+all-right : allOf right gridNumbers ≡ true
 unfolding right gridOf
 all-right = refl
 
@@ -63,16 +62,16 @@ unfolding right
 grid-ok n e =
     let a : ℕ = gridOf n .larger in
     let b : ℕ = gridOf n .smaller in
-    let all = all-of right (9 ∷ 12 ∷ 16 ∷ 20 ∷ 25 ∷ 30 ∷ 36 ∷ 42 ∷ 49 ∷ []) all-right n e in
-    let after1 = and-right (eqb (b * a) n) (leb 1 a && (leb a 7 && (leb 1 b && leb b 7))) all in
-    let after2 = and-right (leb 1 a) (leb a 7 && (leb 1 b && leb b 7)) after1 in
-    let after3 = and-right (leb a 7) (leb 1 b && leb b 7) after2 in
+    let all = all-of right gridNumbers all-right n e in
+    let after1 = both-right (eqb (b * a) n) (leb 1 a && (leb a 7 && (leb 1 b && leb b 7))) all in
+    let after2 = both-right (leb 1 a) (leb a 7 && (leb 1 b && leb b 7)) after1 in
+    let after3 = both-right (leb a 7) (leb 1 b && leb b 7) after2 in
     record {
-      cells = eqb-true _ _ (and-left (eqb (b * a) n) (leb 1 a && (leb a 7 && (leb 1 b && leb b 7))) all);
-      columnsSome = leb-true _ _ (and-left (leb 1 a) (leb a 7 && (leb 1 b && leb b 7)) after1);
-      columnsFew = leb-true _ _ (and-left (leb a 7) (leb 1 b && leb b 7) after2);
-      rowsSome = leb-true _ _ (and-left (leb 1 b) (leb b 7) after3);
-      rowsFew = leb-true _ _ (and-right (leb 1 b) (leb b 7) after3);
+      cells = eqb-true _ _ (both-left (eqb (b * a) n) (leb 1 a && (leb a 7 && (leb 1 b && leb b 7))) all);
+      columnsSome = leb-true _ _ (both-left (leb 1 a) (leb a 7 && (leb 1 b && leb b 7)) after1);
+      columnsFew = leb-true _ _ (both-left (leb a 7) (leb 1 b && leb b 7) after2);
+      rowsSome = leb-true _ _ (both-left (leb 1 b) (leb b 7) after3);
+      rowsFew = leb-true _ _ (both-right (leb 1 b) (leb b 7) after3);
     }
 
 -- The smaller count is what the larger leaves
@@ -118,28 +117,40 @@ module _ (n first second : ℕ) where
             rowsFew = ok .columnsFew;
           })
 
--- n points are those of a grid with fewer than 7 cells on a side, or 7 is the larger count
-upTo6Or7 : ℕ → Bool
-upTo6Or7 n = oneOf (9 ∷ 12 ∷ 16 ∷ 20 ∷ 25 ∷ 30 ∷ 36 ∷ []) n || eqb (gridOf n .larger) 7
+-- n lies above the square of one cell less than the larger count, and not above that of the larger count
+squared : ℕ → Bool
+squared n = ltb ((gridOf n .larger - 1) * (gridOf n .larger - 1)) n && leb n (gridOf n .larger * gridOf n .larger)
 
-all-upTo6Or7 : allOf upTo6Or7 (9 ∷ 12 ∷ 16 ∷ 20 ∷ 25 ∷ 30 ∷ 36 ∷ 42 ∷ 49 ∷ []) ≡ true
-unfolding upTo6Or7 gridOf
-all-upTo6Or7 = refl
+all-squared : allOf squared gridNumbers ≡ true
+unfolding squared gridOf
+all-squared = refl
 
--- So 7 is the larger count where n is none of the others
-pub seven : (n : ℕ) → gridPoints n ≡ true → (n ≡ 9 → ⊥) → ((n ≡ 12) ⊎ (n ≡ 16) → ⊥) → ((n ≡ 20) ⊎ (n ≡ 25) → ⊥) → ((n ≡ 30) ⊎ (n ≡ 36) → ⊥) → gridOf n .larger ≡ 7
-unfolding upTo6Or7
-seven n e not3 not4 not5 not6 =
-    eqb-true _ _
-    (rw (
-      ne-eqb n 9 not3,
-      ne-eqb n 12 (λ x. not4 (inl x)),
-      ne-eqb n 16 (λ x. not4 (inr x)),
-      ne-eqb n 20 (λ x. not5 (inl x)),
-      ne-eqb n 25 (λ x. not5 (inr x)),
-      ne-eqb n 30 (λ x. not6 (inl x)),
-      ne-eqb n 36 (λ x. not6 (inr x)),
-    ) at (all-of upTo6Or7 (9 ∷ 12 ∷ 16 ∷ 20 ∷ 25 ∷ 30 ∷ 36 ∷ 42 ∷ 49 ∷ []) all-upTo6Or7 n e))
+-- The larger count is the least whose square is not below n: one whose square is below n is below it ..
+pub count-below : (n c : ℕ) → gridPoints n ≡ true → c * c < n → c < gridOf n .larger
+unfolding squared
+count-below n c e below = go (decLe (gridOf n .larger) c)
+  where
+    top : n ≤ gridOf n .larger * gridOf n .larger
+    top = leb-true _ _ (both-right (ltb ((gridOf n .larger - 1) * (gridOf n .larger - 1)) n) _ (all-of squared gridNumbers all-squared n e))
+
+    go : Dec (gridOf n .larger ≤ c) → c < gridOf n .larger
+    go (yes h) = let square = mul-le-mul h h in absurd (omega (arith, top, square))
+    go (no f) = lt-of-not-le f
+
+-- .. and one no larger whose square is not below n is it
+pub count-reached : (n c : ℕ) → gridPoints n ≡ true → c ≤ gridOf n .larger → n ≤ c * c → c ≡ gridOf n .larger
+unfolding squared
+count-reached n c e few reached = go (decLe (gridOf n .larger) c)
+  where
+    low : (gridOf n .larger - 1) * (gridOf n .larger - 1) < n
+    low = ltb-true _ _ (both-left _ (leb n (gridOf n .larger * gridOf n .larger)) (all-of squared gridNumbers all-squared n e))
+
+    go : Dec (gridOf n .larger ≤ c) → c ≡ gridOf n .larger
+    go (yes h) = le-antisymm few h
+    go (no f) =
+        let less : c ≤ gridOf n .larger - 1 = omega arith in
+        let square = mul-le-mul less less in
+        absurd (omega (arith, low, square))
 
 -- A center, within what the code can hold
 pub center-product : {side i cells : ℕ} → side ≤ 9999 → i ≤ cells → cells ≤ 7 → (2 * i - 1) * 100 * side ≤ 1300 * 9999

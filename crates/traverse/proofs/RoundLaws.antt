@@ -10,10 +10,9 @@ use lib.Dec.{eqb, lit<}
 use Rattle.arith.specs.Rounding.{roundDiv, IsRounded}
 use Rattle.arith.proofs.Rounding.{round-is, round-mono}
 use Rattle.readings.specs.Ranges.{diameterPoints, layoutDiameter, nozzleDiameter}
-use Rattle.readings.proofs.Ranges.{within-least, within-greatest}
+use Rattle.readings.proofs.Ranges.{both-left, both-right, within-least, within-greatest}
 use Rattle.traverse.specs.Positions.{position}
 use Rattle.traverse.specs.Round.{roundFits, margin, kept, measured, distance}
-use Rattle.traverse.proofs.Tests.{and-left, and-right}
 use Rattle.traverse.proofs.PositionLaws.{points-of, position-mono, position-mirror}
 
 -- a round layout inside its ranges
@@ -26,13 +25,13 @@ pub record RoundOk (n diameter nozzle : ℕ) : Type 0 where
 pub round-ok : (n d z : ℕ) → roundFits n d z ≡ true → RoundOk n d z
 unfolding roundFits
 round-ok n d z e =
-    let rest : (layoutDiameter d && nozzleDiameter z) ≡ true = and-right (diameterPoints n) (layoutDiameter d && nozzleDiameter z) e in
-    let wide : layoutDiameter d ≡ true = and-left (layoutDiameter d) (nozzleDiameter z) rest in
+    let rest : (layoutDiameter d && nozzleDiameter z) ≡ true = both-right (diameterPoints n) (layoutDiameter d && nozzleDiameter z) e in
+    let wide : layoutDiameter d ≡ true = both-left (layoutDiameter d) (nozzleDiameter z) rest in
     record {
-      points = and-left (diameterPoints n) (layoutDiameter d && nozzleDiameter z) e;
+      points = both-left (diameterPoints n) (layoutDiameter d && nozzleDiameter z) e;
       diameterLeast = within-least 120 9999 d wide;
       diameterMost = within-greatest 120 9999 d wide;
-      nozzleMost = within-greatest 100 1000 z (and-right (layoutDiameter d) (nozzleDiameter z) rest);
+      nozzleMost = within-greatest 100 1000 z (both-right (layoutDiameter d) (nozzleDiameter z) rest);
     }
 
 -- The two margins

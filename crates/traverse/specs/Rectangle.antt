@@ -4,30 +4,17 @@ use mathlib.Core.Bool.{Bool, cond, _&&_}
 use mathlib.Core.List.{List, [], _∷_}
 use lib.Dec.{leb, eqb}
 use Rattle.arith.specs.Rounding.{roundDiv}
-use Rattle.readings.specs.Ranges.{gridPoints, side}
+use Rattle.readings.specs.Ranges.{side, leastLayoutDiameter}
+use Rattle.readings.specs.Grids.{Grid, _by_, grids, gridPoints}
 use Rattle.traverse.specs.Layout.{eachTo}
 
-infixl 50 _by_
 -- a rectangle's diameter 2LW/(L+W) is 12 in or more
 unfoldable pub wideEnough : ℕ → ℕ → Bool
-wideEnough first second = leb (120 * (first + second)) (2 * first * second)
+wideEnough first second = leb (leastLayoutDiameter * (first + second)) (2 * first * second)
 
 -- a rectangular layout inside its ranges
 unfoldable pub rectangleFits : ℕ → ℕ → ℕ → Bool
 rectangleFits n first second = gridPoints n && (side first && (side second && wideEnough first second))
-
--- a grid's two counts of cells
-pub record Grid : Type 0 where
-  pub larger : ℕ
-  pub smaller : ℕ
-
--- a cells by b, the larger count first
-abbrev pub _by_ : ℕ → ℕ → Grid
-a by b = record { larger = a; smaller = b }
-
--- the grids of 9 to 49 points
-abbrev pub grids : List Grid
-grids = (3 by 3) ∷ (4 by 3) ∷ (4 by 4) ∷ (5 by 4) ∷ (5 by 5) ∷ (6 by 5) ∷ (6 by 6) ∷ (7 by 6) ∷ (7 by 7) ∷ []
 
 -- the one of a list that has n cells
 abbrev pub withCells : ℕ → List Grid → Grid

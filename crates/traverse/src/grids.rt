@@ -4,22 +4,21 @@ use arith::round_div;
 ghost use mathlib.Core.Path.{_≡_};
 ghost use mathlib.Core.Bool.{true};
 ghost use Prim.Native.Nat.{_≤_};
-ghost use Rattle.readings.specs.Ranges.{gridPoints};
+ghost use Rattle.readings.specs.Grids.{gridPoints};
 ghost use Rattle.traverse.specs.Layout.{AtMost};
 ghost use Rattle.traverse.specs.Rectangle.{gridOf, firstCells, secondCells, center};
 
-// The larger of a grid's two counts of cells.
+// The larger of a grid's two counts of cells: the least whose square is not below the number of points.
 fn larger_count(points: u16) -> u64
     requires { ⌜ gridPoints points ≡ true ⌝ }
     ensures { λ r. ⌜ r ≡ gridOf points .larger ⌝ }
 {
-    match points {
-        9 => 3,
-        12 | 16 => 4,
-        20 | 25 => 5,
-        30 | 36 => 6,
-        _ => 7,
+    let n = points as u64;
+    let mut count: u64 = 1;
+    while count * count < n {
+        count += 1;
     }
+    count
 }
 
 // Cells along the first side: the larger count on the longer side, on the first where they are equal.

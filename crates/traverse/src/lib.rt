@@ -12,17 +12,20 @@ use readings::layouts::LayoutDiameter;
 use readings::runs::Side;
 ghost use mathlib.Core.Path.{_≡_};
 ghost use mathlib.Core.Bool.{true};
-ghost use Rattle.traverse.specs.Layout.{Holds};
+ghost use Rattle.traverse.specs.Layout.{IsLayout};
 ghost use Rattle.traverse.specs.Round.{roundFits, roundLayout};
 ghost use Rattle.traverse.specs.Rectangle.{rectangleFits, rectangleLayout};
 
 mod diameters;
 mod grids;
 
-// The first `count` distances, 0.001 in, and zeros after them. 49 points of a rectangle have 98.
+// The most distances of a layout: two for each of 49 points.
+pub const MOST_DISTANCES: usize = 98;
+
+// The first `count` distances, 0.001 in, and zeros after them.
 pub struct Layout {
     pub count: usize,
-    pub distances: [u32; 98],
+    pub distances: [u32; MOST_DISTANCES],
 }
 
 // Whether a round layout is inside its ranges: points on the diameter, diameter in 0.1 in, nozzle in 0.001 in.
@@ -59,10 +62,10 @@ pub fn rectangle_fits(points: u16, first: u16, second: u16) -> bool
 // The distances of a round stack's points from one wall, across the diameter.
 pub fn round(points: u16, diameter: u16, nozzle: u16) -> Layout
     requires { ⌜ roundFits points diameter nozzle ≡ true ⌝ }
-    ensures { λ r. ⌜ Holds (roundLayout points diameter nozzle) r ⌝ }
+    ensures { λ r. ⌜ IsLayout (roundLayout points diameter nozzle) r ⌝ }
 {
     let n = points as usize;
-    let mut distances = [0u32; 98];
+    let mut distances = [0u32; MOST_DISTANCES];
     let mut i: usize = 0;
     while i < n {
         distances[i] = distance(points as u64, diameter as u64, nozzle as u64, i as u64 + 1) as u32;
@@ -78,11 +81,11 @@ pub fn round(points: u16, diameter: u16, nozzle: u16) -> Layout
 // the first side's first. The points go along the first side, row after row.
 pub fn rectangle(points: u16, first: u16, second: u16) -> Layout
     requires { ⌜ rectangleFits points first second ≡ true ⌝ }
-    ensures { λ r. ⌜ Holds (rectangleLayout points first second) r ⌝ }
+    ensures { λ r. ⌜ IsLayout (rectangleLayout points first second) r ⌝ }
 {
     let columns = first_cells(points, first, second);
     let rows = second_cells(points, first, second);
-    let mut distances = [0u32; 98];
+    let mut distances = [0u32; MOST_DISTANCES];
     let mut at: usize = 0;
     let mut j: u64 = 0;
     while j < rows {

@@ -6,7 +6,7 @@ use native.Mathlib.Nat.{mul-le-mul}
 use native.Mathlib.Omega.{arith}
 use borrow.Author.Needs.{needs}
 use Rattle.arith.specs.Root.{nearestRoot}
-use Rattle.arith.proofs.Root.{nearest-is, root-unique}
+use Rattle.arith.proofs.Root.{nearest-is, root-unique, AboveRoot, first-above}
 use Rattle.arith.proofs.nearest_root.Statement.{statement}
 use Rattle.arith.proofs.nearest_root.Tie as tie
 
@@ -36,7 +36,10 @@ first-bound-requires : tie.Need-first-bound-requires Inv-loop μ-loop
 first-bound-requires c κs = search needs
 
 loop-holds : tie.Need-loop-holds Inv-loop μ-loop
-loop-holds c = record { reached = omega arith; above = c .first-bound .ensures .above; apart = c .first-bound .ensures .some; small = c .first-bound .ensures .small }
+loop-holds c =
+    let y = c .before .args .y in
+    let first : AboveRoot y (c .first-bound .result) = rw (c .first-bound .ensures) (first-above y (c .before .fits .y .fits)) in
+    record { reached = omega arith; above = first .above; apart = first .some; small = first .small }
 
 add-loop : tie.Need-add-loop Inv-loop μ-loop
 add-loop c = omega arith

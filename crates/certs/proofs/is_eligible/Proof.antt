@@ -2,7 +2,7 @@
 use mathlib.Core.Path.{refl}
 use borrow.Author.Needs.{needs}
 use borrow.Author.Tests.{eq-eqb, ne-eqb, not-true, not-false}
-use Rattle.records.proofs.EarlyAnswers.{fails, passes}
+use Rattle.readings.proofs.EarlyAnswers.{fails, passes}
 use Rattle.certs.specs.Choosing.{eligible}
 use Rattle.certs.proofs.is_eligible.Statement.{statement}
 use Rattle.certs.proofs.is_eligible.Tie as tie

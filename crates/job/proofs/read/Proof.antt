@@ -5,15 +5,17 @@ use native.Mathlib.Omega.{arith}
 use borrow.Author.Needs.{needs}
 use lib.Dec.{lit≤}
 use lib.ListN.{length}
+use Rattle.readings.specs.Ranges.{greatestRunCount, greatestCertificateCount}
 use Rattle.fields.specs.declared.trouble.Trouble.the-variants.{Clear}
 use Rattle.fields.specs.Trouble.{first, upTo}
 use Rattle.fields.proofs.FirstTrouble.{first-met, first-passed}
-use Rattle.parts.specs.Arrays.{padded}
-use Rattle.parts.proofs.Layouts.{complete-at}
-use Rattle.parts.specs.Values.{certificatePlace}
+use Rattle.arrays.specs.Arrays.{padded}
+use Rattle.fields.proofs.RecordTrouble.{complete-at}
+use Rattle.heads.specs.Values.{certificatePlace, fileHeaderSize}
+use Rattle.job.specs.declared.runs.Walk.{Walk}
 use Rattle.job.specs.Places.{runStart}
 use Rattle.job.specs.Troubles.{entryTrouble, runsTrouble, endTrouble, jobTrouble}
-use Rattle.job.proofs.WholeFile.{certificate-count, run-count, certificates-fit, refuses, accepts}
+use Rattle.job.proofs.WholeFile.{certificate-count, run-count, certificates-fit, refuses, accepts, walk-told, walk-starts}
 use Rattle.job.proofs.read.Statement.{statement}
 use Rattle.job.proofs.read.Tie as tie
 
@@ -26,18 +28,18 @@ enum-told c = search needs
 enum-told-2 : tie.Need-enum-told-2
 enum-told-2 c = search needs
 
-refused-requires : tie.Need-refused-requires
-refused-requires c κs = search needs
+refused-job-requires : tie.Need-refused-job-requires
+refused-job-requires c κs = search needs
 
 returns : tie.Need-returns
 unfolding jobTrouble
 returns c =
     let told = c .before .enum-told2 .given .1 in
-    refuses _ (c .refused .ensures) told (first-met _ (c .before .before .before .trouble .ensures) told)
+    refuses _ (c .refused-job .ensures) told (first-met _ (c .before .before .before .trouble .ensures) told)
 
 -- a header whose fields are clear is complete
-complete : (c : tie.After-enum-told) → 9 ≤ length (c .before .before .before .before .args .s .now)
-complete c = complete-at _ 0 9 _ (lit≤ tt) (sym (c .before .before .trouble .ensures) ∙ c .enum-told .given .1)
+complete : (c : tie.After-enum-told) → fileHeaderSize ≤ length (c .before .before .before .before .args .s .now)
+complete c = complete-at _ 0 fileHeaderSize _ (lit≤ tt) (sym (c .before .before .trouble .ensures) ∙ c .enum-told .given .1)
 
 u16-at-requires : tie.Need-u16-at-requires
 u16-at-requires c κs = omega (arith, complete c)
@@ -54,7 +56,7 @@ cast-runs c = search needs
 troubles-requires : tie.Need-troubles-requires
 troubles-requires c κs =
     let header = c .before .before in
-    subst (λ (n : ℕ). n ≤ 64) (sym (c .before .u16-at .ensures)) (certificate-count _ (sym (header .before .before .trouble .ensures) ∙ header .enum-told .given .1))
+    subst (λ (n : ℕ). n ≤ greatestCertificateCount) (sym (c .before .u16-at .ensures)) (certificate-count _ (sym (header .before .before .trouble .ensures) ∙ header .enum-told .given .1))
 
 enum-told-3 : tie.Need-enum-told-3
 enum-told-3 c = search needs
@@ -62,8 +64,8 @@ enum-told-3 c = search needs
 enum-told-4 : tie.Need-enum-told-4
 enum-told-4 c = search needs
 
-refused-requires-2 : tie.Need-refused-requires-2
-refused-requires-2 c κs = search needs
+refused-job-requires-2 : tie.Need-refused-job-requires-2
+refused-job-requires-2 c κs = search needs
 
 returns-2 : tie.Need-returns-2
 unfolding jobTrouble
@@ -74,7 +76,7 @@ returns-2 c =
     let header = counts .before in
     let s = header .before .before .before .before .args .s .now in
     let entries = certificates .troubles .ensures ∙ ap (upTo (entryTrouble s)) (counts .u16-at .ensures) in
-    refuses s (c .refused2 .ensures) told
+    refuses s (c .refused-job2 .ensures) told
     (first-passed (header .before .before .trouble .ensures) (header .enum-told .given .1) (first-met _ entries told))
 
 mul-first : tie.Need-mul-first
@@ -93,7 +95,7 @@ read-requires c κs =
     let s = header .before .before .before .before .args .s .now in
     let own = sym (header .before .before .trouble .ensures) ∙ header .enum-told .given .1 in
     let entries = sym (certificates .troubles .ensures) ∙ c .enum-told3 .given .1 in (
-      subst (λ (n : ℕ). n ≤ 16) (sym (runs .u16-at2 .ensures)) (run-count _ own),
+      subst (λ (n : ℕ). n ≤ greatestRunCount) (sym (runs .u16-at2 .ensures)) (run-count _ own),
       ap certificatePlace (count .u16-at .ensures),
       certificates-fit s _ own entries,
     )
@@ -104,8 +106,8 @@ enum-told-5 c = search needs
 enum-told-6 : tie.Need-enum-told-6
 enum-told-6 c = search needs
 
-refused-requires-3 : tie.Need-refused-requires-3
-refused-requires-3 c κs = search needs
+refused-job-requires-3 : tie.Need-refused-job-requires-3
+refused-job-requires-3 c κs = search needs
 
 returns-3 : tie.Need-returns-3
 unfolding jobTrouble
@@ -119,8 +121,8 @@ returns-3 c =
     let header = count .before in
     let s = header .before .before .before .before .args .s .now in
     let entries = certificates .troubles .ensures ∙ ap (upTo (entryTrouble s)) (count .u16-at .ensures) in
-    let rest = walk .read .ensures .trouble ∙ ap (λ (n : ℕ). first (runsTrouble s n) (endTrouble s (runStart s n))) (runs .u16-at2 .ensures) in
-    refuses s (c .refused3 .ensures) told
+    let rest = ap (λ (w : Walk). w .trouble) (walk .read .ensures) ∙ walk-told s _ ∙ ap (λ (n : ℕ). first (runsTrouble s n) (endTrouble s (runStart s n))) (runs .u16-at2 .ensures) in
+    refuses s (c .refused-job3 .ensures) told
     (first-passed (header .before .before .trouble .ensures) (header .enum-told .given .1)
     (first-passed entries (held .enum-told3 .given .1) rest))
 
@@ -136,8 +138,8 @@ returns-4 c =
     let header = count .before in
     let s = header .before .before .before .before .args .s .now in
     let entries = certificates .troubles .ensures ∙ ap (upTo (entryTrouble s)) (count .u16-at .ensures) in
-    let rest = walk .read .ensures .trouble ∙ ap (λ (n : ℕ). first (runsTrouble s n) (endTrouble s (runStart s n))) (runs .u16-at2 .ensures) in
-    let starts = walk .read .ensures .starts (done .enum-told5 .given .1) ∙ ap (padded 16 0 (runStart s)) (runs .u16-at2 .ensures) in
+    let rest = ap (λ (w : Walk). w .trouble) (walk .read .ensures) ∙ walk-told s _ ∙ ap (λ (n : ℕ). first (runsTrouble s n) (endTrouble s (runStart s n))) (runs .u16-at2 .ensures) in
+    let starts = ap (λ (w : Walk). w .starts) (walk .read .ensures) ∙ walk-starts s _ (ap (λ (w : Walk). w .trouble) (sym (walk .read .ensures)) ∙ done .enum-told5 .given .1) ∙ ap (padded greatestRunCount 0 (runStart s)) (runs .u16-at2 .ensures) in
     accepts s
     (λ i. record { trouble = Clear; certificates = count .u16-at .ensures i; runs = runs .u16-at2 .ensures i; starts = starts i })
     (sym (done .enum-told5 .given .1)
@@ -151,7 +153,7 @@ read-spec =
     trouble-requires
     enum-told
     enum-told-2
-    refused-requires
+    refused-job-requires
     returns
     u16-at-requires
     cast-certificates
@@ -160,13 +162,13 @@ read-spec =
     troubles-requires
     enum-told-3
     enum-told-4
-    refused-requires-2
+    refused-job-requires-2
     returns-2
     mul-first
     add-first
     read-requires
     enum-told-5
     enum-told-6
-    refused-requires-3
+    refused-job-requires-3
     returns-3
     returns-4)

@@ -8,7 +8,7 @@ use mathlib.Core.Path.{_≡_}
 use mathlib.Core.List.{List}
 use lib.ListN.{getD}
 use Rattle.records.specs.declared.Run.{Run}
-use Rattle.parts.specs.Values.{certificateOf}
+use Rattle.heads.specs.Values.{certificateOf}
 use Rattle.certs.specs.Choosing.{chosenFor}
 use Rattle.job.specs.declared.Job.{Job}
 use Rattle.job.specs.Places.{runOf}

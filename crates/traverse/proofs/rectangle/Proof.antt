@@ -1,7 +1,7 @@
 -- Two loops, along the second side and, inside it, along the first: each turn of the inner one stores a point's two distances.
 use Prim.Native.Nat.{_-_, _≤_, _<_}
 use native.Mathlib.Omega.{arith}
-use Rattle.traverse.proofs.ListLaws.{filled-none}
+use Rattle.arrays.proofs.Filled.{filled-none}
 use Rattle.traverse.proofs.RectangleLaws.{RectangleOk, rectangle-ok, CellsOk, cells-ok}
 use Rattle.traverse.proofs.RowLaws.{Rows, Row, rows-none, row-none, row-room, row-more, row-all, rows-all}
 use Rattle.traverse.proofs.rectangle.Statement.{statement}
@@ -43,7 +43,7 @@ second-cells-requires : tie.Need-second-cells-requires Inv-loop2 μ-loop2 Inv-lo
 second-cells-requires c κs = sides (c .before) .points
 
 loop-holds : tie.Need-loop-holds Inv-loop2 μ-loop2 Inv-loop μ-loop
-loop-holds c = rows-none filled-none
+loop-holds c = rows-none (filled-none _ _)
 
 loop2-holds : tie.Need-loop2-holds Inv-loop2 μ-loop2 Inv-loop μ-loop
 loop2-holds c = row-none (c .before .loop .inv)

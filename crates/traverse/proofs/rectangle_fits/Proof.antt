@@ -6,9 +6,10 @@ use borrow.Author.Needs.{needs}
 use borrow.Author.Tests.{not-true, not-false}
 use native.Mathlib.Nat.{mul-le-mul}
 use native.Mathlib.Omega.{arith}
-use Rattle.readings.specs.Ranges.{gridPoints, side}
+use Rattle.readings.specs.Ranges.{side}
+use Rattle.readings.specs.Grids.{gridPoints}
 use Rattle.traverse.specs.Rectangle.{rectangleFits, wideEnough}
-use Rattle.traverse.proofs.Tests.{first-fails, first-passes}
+use Rattle.readings.proofs.EarlyAnswers.{fails, passes}
 use Rattle.traverse.proofs.rectangle_fits.Statement.{statement}
 use Rattle.traverse.proofs.rectangle_fits.Tie as tie
 
@@ -26,7 +27,7 @@ check-requires c κs = search needs
 
 returns : tie.Need-returns
 unfolding rectangleFits
-returns c = first-fails _ _ (sym (c .before .check .ensures) ∙ not-true _ (c .if1 .taken))
+returns c = fails (c .before .check .ensures) (not-true _ (c .if1 .taken)) _
 
 check-requires-2 : tie.Need-check-requires-2
 check-requires-2 c κs = search needs
@@ -34,7 +35,7 @@ check-requires-2 c κs = search needs
 returns-2 : tie.Need-returns-2
 unfolding rectangleFits
 returns-2 c =
-    first-passes _ _ (points-pass (c .before .before)) (first-fails _ _ (sym (c .before .check2 .ensures) ∙ not-true _ (c .if2 .taken)))
+    passes refl (points-pass (c .before .before)) (fails (c .before .check2 .ensures) (not-true _ (c .if2 .taken)) _)
 
 check-requires-3 : tie.Need-check-requires-3
 check-requires-3 c κs = search needs
@@ -43,8 +44,8 @@ returns-3 : tie.Need-returns-3
 unfolding rectangleFits
 returns-3 c =
     let past = c .before .before in
-    first-passes _ _ (points-pass (past .before .before))
-    (first-passes _ _ (first-pass past) (first-fails _ _ (sym (c .before .check3 .ensures) ∙ not-true _ (c .if3 .taken))))
+    passes refl (points-pass (past .before .before))
+    (passes refl (first-pass past) (fails (c .before .check3 .ensures) (not-true _ (c .if3 .taken)) _))
 
 cast-result : tie.Need-cast-result
 cast-result c = search needs
@@ -69,7 +70,7 @@ returns-4 : tie.Need-returns-4
 unfolding rectangleFits wideEnough
 returns-4 c =
     let past = c .before .before in
-    first-passes _ _ (points-pass (past .before .before)) (first-passes _ _ (first-pass past) (first-passes _ _ (second-pass c) refl))
+    passes refl (points-pass (past .before .before)) (passes refl (first-pass past) (passes refl (second-pass c) refl))
 
 pub rectangle-fits-spec : {M : Type 1} → statement M
 rectangle-fits-spec =

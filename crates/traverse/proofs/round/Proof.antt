@@ -5,9 +5,10 @@ use mathlib.Core.List.{List, [], _∷_}
 use native.Mathlib.Nat.{le-antisymm}
 use native.Mathlib.Omega.{arith}
 use lib.ListN.{set}
-use Rattle.traverse.specs.Layout.{eachTo, Holds}
+use Rattle.traverse.specs.Layout.{eachTo, IsLayout, mostDistances}
 use Rattle.traverse.specs.Round.{distance, roundLayout}
-use Rattle.traverse.proofs.ListLaws.{Filled, filled-none, filled-more, each-none, each-more}
+use Rattle.arrays.proofs.Filled.{Filled, filled-none, filled-more}
+use Rattle.traverse.proofs.ListLaws.{each-none, each-more}
 use Rattle.traverse.proofs.PositionLaws.{points-of}
 use Rattle.traverse.proofs.RoundLaws.{round-ok}
 use Rattle.traverse.proofs.round.Statement.{statement}
@@ -16,9 +17,9 @@ use Rattle.traverse.proofs.round.Tie as tie
 -- the first i points' distances stand in the array
 record Laid (n d z : ℕ) (array : List ℕ) (i : ℕ) : Type 0 where
   past : i ≤ n
-  filled : Filled (eachTo (λ i. distance n d z i ∷ []) i) i array
+  filled : Filled mostDistances 0 (eachTo (λ i. distance n d z i ∷ []) i) i array
 
-laid-none : (n d z : ℕ) (array : List ℕ) → Filled [] 0 array → Laid n d z array 0
+laid-none : (n d z : ℕ) (array : List ℕ) → Filled mostDistances 0 [] 0 array → Laid n d z array 0
 laid-none n d z array t = record { past = omega arith; filled = rw (each-none (λ i. distance n d z i ∷ [])) t }
 
 laid-more : {n d z : ℕ} {array : List ℕ} {i : ℕ} (a : ℕ) → Laid n d z array i → n ≤ 24 → i < n → a ≡ distance n d z (i + 1) → Laid n d z (set array i a) (i + 1)
@@ -28,12 +29,12 @@ laid-more {n} {d} {z} {array} {i} a t few inside e =
       filled = rw (e, each-more (λ i. distance n d z i ∷ []) i) (filled-more (distance n d z (i + 1)) (t .filled) (omega arith));
     }
 
-laid-all : {n d z : ℕ} {array : List ℕ} {i : ℕ} → Laid n d z array i → n ≤ i → Holds (roundLayout n d z) (record { count = n; distances = array })
+laid-all : {n d z : ℕ} {array : List ℕ} {i : ℕ} → Laid n d z array i → n ≤ i → IsLayout (roundLayout n d z) (record { count = n; distances = array })
 unfolding roundLayout
 laid-all {n} {d} {z} {array} {i} t end =
     let all : i ≡ n = le-antisymm (t .past) end in
-    let filled : Filled (eachTo (λ i. distance n d z i ∷ []) n) n array = rw all at (t .filled) in
-    record { count = filled .next; distances = filled .holds }
+    let filled : Filled mostDistances 0 (eachTo (λ i. distance n d z i ∷ []) n) n array = rw all at (t .filled) in
+    record { count = filled .count; distances = filled .holds }
 
 abbrev Inv-loop : tie.InvT-loop
 Inv-loop points diameter nozzle n distances₀ i₀ distances i = Laid points diameter nozzle distances i
@@ -46,7 +47,7 @@ few : (c : tie.Start Inv-loop μ-loop) → c .args .points ≤ 24
 few c = points-of (c .args .points) (round-ok _ _ _ (c .pre) .points) .most
 
 loop-holds : tie.Need-loop-holds Inv-loop μ-loop
-loop-holds c = laid-none _ _ _ _ filled-none
+loop-holds c = laid-none _ _ _ _ (filled-none _ _)
 
 add-distance : tie.Need-add-distance Inv-loop μ-loop
 add-distance c = omega arith

@@ -3,7 +3,7 @@ use mathlib.Core.Path.{_∙_, sym}
 use borrow.Author.Needs.{needs}
 use borrow.Author.Tests.{not-true, not-false}
 use Rattle.traverse.specs.Round.{roundFits}
-use Rattle.traverse.proofs.Tests.{first-fails, first-passes}
+use Rattle.readings.proofs.EarlyAnswers.{fails, passes}
 use Rattle.traverse.proofs.round_fits.Statement.{statement}
 use Rattle.traverse.proofs.round_fits.Tie as tie
 
@@ -12,7 +12,7 @@ check-requires c κs = search needs
 
 returns : tie.Need-returns
 unfolding roundFits
-returns c = first-fails _ _ (sym (c .before .check .ensures) ∙ not-true _ (c .if1 .taken))
+returns c = fails (c .before .check .ensures) (not-true _ (c .if1 .taken)) _
 
 check-requires-2 : tie.Need-check-requires-2
 check-requires-2 c κs = search needs
@@ -21,8 +21,8 @@ returns-2 : tie.Need-returns-2
 unfolding roundFits
 returns-2 c =
     let past = c .before .before in
-    first-passes _ _ (sym (past .before .check .ensures) ∙ not-false _ (past .if1 .left))
-    (first-fails _ _ (sym (c .before .check2 .ensures) ∙ not-true _ (c .if2 .taken)))
+    passes (past .before .check .ensures) (not-false _ (past .if1 .left))
+    (fails (c .before .check2 .ensures) (not-true _ (c .if2 .taken)) _)
 
 check-requires-3 : tie.Need-check-requires-3
 check-requires-3 c κs = search needs
@@ -32,8 +32,8 @@ unfolding roundFits
 returns-3 c =
     let second = c .before in
     let first = second .before .before in
-    first-passes _ _ (sym (first .before .check .ensures) ∙ not-false _ (first .if1 .left))
-    (first-passes _ _ (sym (second .before .check2 .ensures) ∙ not-false _ (second .if2 .left)) (c .check3 .ensures))
+    passes (first .before .check .ensures) (not-false _ (first .if1 .left))
+    (passes (second .before .check2 .ensures) (not-false _ (second .if2 .left)) (c .check3 .ensures))
 
 pub round-fits-spec : {M : Type 1} → statement M
 round-fits-spec =

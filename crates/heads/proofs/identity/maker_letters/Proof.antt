@@ -1,7 +1,7 @@
 -- Each early answer is the first letter that is none.
 use borrow.Author.Tests.{not-true, not-false}
 use borrow.Author.Needs.{needs}
-use Rattle.records.proofs.EarlyAnswers.{fails, passes}
+use Rattle.readings.proofs.EarlyAnswers.{fails, passes}
 use Rattle.heads.proofs.identity.maker_letters.Statement.{statement}
 use Rattle.heads.proofs.identity.maker_letters.Tie as tie
 

@@ -8,8 +8,8 @@ use lib.Dec.{lit≤}
 use lib.ListN.{length}
 use Rattle.fields.proofs.FirstTrouble.{first-met, step}
 use Rattle.records.specs.declared.Certificate.{Certificate}
-use Rattle.parts.specs.Values.{certificatePlace, certificateOf}
-use Rattle.parts.proofs.Layouts.{complete-at}
+use Rattle.heads.specs.Values.{certificatePlace, certificateOf, certificateSize}
+use Rattle.fields.proofs.RecordTrouble.{complete-at}
 use Rattle.job.specs.Troubles.{sameCertificate, anyTo}
 use Rattle.job.proofs.certificates.entry_trouble.Statement.{statement}
 use Rattle.job.proofs.certificates.entry_trouble.Tie as tie
@@ -35,14 +35,14 @@ returns c = first-met _ (c .before .before .trouble .ensures) (c .enum-told2 .gi
 -- a certificate whose fields are clear is complete
 complete :
     (c : tie.After-enum-told)
-    → certificatePlace (c .before .before .before .before .args .k) + 16 ≤ length (c .before .before .before .before .args .s .now)
-complete c = complete-at _ _ 16 _ (lit≤ tt) (sym (c .before .before .trouble .ensures) ∙ c .enum-told .given .1)
+    → certificatePlace (c .before .before .before .before .args .k) + certificateSize ≤ length (c .before .before .before .before .args .s .now)
+complete c = complete-at _ _ certificateSize _ (lit≤ tt) (sym (c .before .before .trouble .ensures) ∙ c .enum-told .given .1)
 
 nth-requires : tie.Need-nth-requires
 nth-requires c κs = complete c
 
-stands-requires : tie.Need-stands-requires
-stands-requires c κs = omega (arith, complete (c .before))
+repeats-requires : tie.Need-repeats-requires
+repeats-requires c κs = omega (arith, complete (c .before))
 
 unless-requires : tie.Need-unless-requires
 unless-requires c κs = search needs
@@ -53,7 +53,7 @@ returns-2 c =
     let met = look .before .before .before .before .trouble in
     let a = look .before .before .before .before .before .before .args in
     let back = ap (λ (own : Certificate). anyTo (λ j. sameCertificate (certificateOf (a .s .now) j) own) (a .k)) (look .before .nth .ensures) in
-    step 6 (certificatePlace (a .k)) (c .unless .ensures) (met .ensures) (ap not (look .stands .ensures ∙ back))
+    step 6 (certificatePlace (a .k)) (c .unless .ensures) (met .ensures) (ap not (look .repeats .ensures ∙ back))
 
 pub entry-trouble-spec : {M : Type 1} → statement M
 entry-trouble-spec =
@@ -66,6 +66,6 @@ entry-trouble-spec =
     enum-told-2
     returns
     nth-requires
-    stands-requires
+    repeats-requires
     unless-requires
     returns-2)

@@ -2,7 +2,7 @@
 use mathlib.Core.Path.{refl}
 use borrow.Author.Tests.{eq-eqb, ne-eqb, not-true, not-false}
 use borrow.Author.Needs.{needs}
-use Rattle.records.proofs.EarlyAnswers.{fails, passes}
+use Rattle.readings.proofs.EarlyAnswers.{fails, passes}
 use Rattle.job.proofs.certificates.same.Statement.{statement}
 use Rattle.job.proofs.certificates.same.Tie as tie
 

@@ -4,7 +4,7 @@ use mathlib.Core.Path.{ap}
 use borrow.Author.Tests.{eq-eqb, ne-eqb}
 use borrow.Author.Needs.{needs}
 use lib.Dec.{eqb}
-use Rattle.records.proofs.EarlyAnswers.{fails, passes}
+use Rattle.readings.proofs.EarlyAnswers.{fails, passes}
 use Rattle.job.proofs.file.marked.Statement.{statement}
 use Rattle.job.proofs.file.marked.Tie as tie
 

@@ -3,15 +3,16 @@ use Prim.Native.Nat.{ℕ}
 use mathlib.Core.Path.{refl, ap, _∙_}
 use borrow.Author.Needs.{needs}
 use lib.Dec.{eqb}
+use Rattle.heads.specs.Values.{fileHeaderSize}
 use Rattle.fields.specs.Trouble.{checks}
 use Rattle.fields.proofs.FirstTrouble.{step, from-zero}
 use Rattle.readings.specs.Ranges.{certificateCount, runCount}
-use Rattle.parts.proofs.Layouts.{short-at, whole-at}
+use Rattle.fields.proofs.RecordTrouble.{short-at, whole-at}
 use Rattle.job.proofs.file.trouble.Statement.{statement}
 use Rattle.job.proofs.file.trouble.Tie as tie
 
 returns : tie.Need-returns
-returns c = short-at (c .before .before .args .s .now) 0 9 _ refl (c .if1 .taken)
+returns c = short-at (c .before .before .args .s .now) 0 fileHeaderSize _ refl (c .if1 .taken)
 
 marked-requires : tie.Need-marked-requires
 marked-requires c κs = search needs
@@ -55,7 +56,7 @@ returns-2 c =
     let row3 = step 3 3 (version .unless2 .ensures) row0 (ap (λ (v : ℕ). eqb v 1) (version .before .u16-at .ensures)) in
     let row5 = step 4 5 (certificates .unless3 .ensures) row3 (certificates .before .check .ensures ∙ ap certificateCount (certificates .before .before .u16-at2 .ensures)) in
     let row7 = step 4 7 (runs .unless4 .ensures) row5 (runs .before .check2 .ensures ∙ ap runCount (runs .before .before .u16-at3 .ensures)) in
-    whole-at (whole .before .before .args .s .now) 0 9 _ refl (whole .if1 .left) row7 (from-zero _)
+    whole-at (whole .before .before .args .s .now) 0 fileHeaderSize _ refl (whole .if1 .left) row7 (from-zero _)
 
 pub trouble-spec : {M : Type 1} → statement M
 trouble-spec =

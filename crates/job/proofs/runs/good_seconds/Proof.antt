@@ -7,9 +7,10 @@ use borrow.Author.Needs.{needs}
 use native.Mathlib.Omega.{arith}
 use lib.Dec.{eqb}
 use lib.ListN.{length}
-use Rattle.records.proofs.EarlyAnswers.{fails, passes}
+use Rattle.heads.specs.Values.{runHeaderSize}
+use Rattle.readings.proofs.EarlyAnswers.{fails, passes}
 use Rattle.readings.specs.Ranges.{totalSeconds}
-use Rattle.parts.specs.Values.{point, segment}
+use Rattle.parts.specs.Values.{point, segment, pointSize, segmentSize}
 use Rattle.parts.proofs.Places.{enough, summed}
 use Rattle.job.proofs.runs.good_seconds.Statement.{statement}
 use Rattle.job.proofs.runs.good_seconds.Tie as tie
@@ -29,7 +30,7 @@ tail-requires c κs = search needs
 seconds-requires : tie.Need-seconds-requires
 seconds-requires c κs =
     let a = c .before .before .before .before .args in
-    let room : 12 * a .n .points ≤ length (c .tail .result .now) = enough (a .s .now) (a .start + 64) (12 * a .n .points) (c .tail .ensures) (omega (arith, c .before .before .before .before .pre)) in
+    let room : pointSize * a .n .points ≤ length (c .tail .result .now) = enough (a .s .now) (a .start + runHeaderSize) (pointSize * a .n .points) (c .tail .ensures) (omega (arith, c .before .before .before .before .pre)) in
     (search needs, room)
 
 mul-tail : tie.Need-mul-tail
@@ -45,7 +46,7 @@ seconds-requires-2 : tie.Need-seconds-requires-2
 seconds-requires-2 c κs =
     let start = c .before .before .before .before .before .before in
     let a = start .args in
-    let room : 4 * a .n .segments ≤ length (c .tail2 .result .now) = enough (a .s .now) (a .start + 64 + 12 * a .n .points) (4 * a .n .segments) (c .tail2 .ensures) (start .pre) in
+    let room : segmentSize * a .n .segments ≤ length (c .tail2 .result .now) = enough (a .s .now) (a .start + runHeaderSize + pointSize * a .n .points) (segmentSize * a .n .segments) (c .tail2 .ensures) (start .pre) in
     (search needs, room)
 
 check-requires : tie.Need-check-requires
@@ -56,8 +57,8 @@ returns c =
     let check = c .before .check in
     let points = c .before .before .before .before in
     let start = points .before .before .before .before .before in
-    let at = start .args .start + 64 in
-    let by-points = summed (λ (t : List ℕ). point t .seconds) 12 (start .args .s .now) at (start .args .n .points) (points .seconds .ensures) (points .before .tail .ensures) in
+    let at = start .args .start + runHeaderSize in
+    let by-points = summed (λ (t : List ℕ). point t .seconds) pointSize (start .args .s .now) at (start .args .n .points) (points .seconds .ensures) (points .before .tail .ensures) in
     fails (check .ensures ∙ ap totalSeconds by-points) (not-true (check .result) (c .if1 .taken)) _
 
 returns-2 : tie.Need-returns-2
@@ -68,9 +69,9 @@ returns-2 c =
     let start = points .before .before .before .before .before in
     let s = start .args .s .now in
     let n = start .args .n in
-    let at = start .args .start + 64 in
-    let by-points = summed (λ (t : List ℕ). point t .seconds) 12 s at (n .points) (points .seconds .ensures) (points .before .tail .ensures) in
-    let by-segments = summed (λ (t : List ℕ). segment t .seconds) 4 s (at + 12 * n .points) (n .segments) (segments .seconds2 .ensures) (segments .before .tail2 .ensures) in
+    let at = start .args .start + runHeaderSize in
+    let by-points = summed (λ (t : List ℕ). point t .seconds) pointSize s at (n .points) (points .seconds .ensures) (points .before .tail .ensures) in
+    let by-segments = summed (λ (t : List ℕ). segment t .seconds) segmentSize s (at + pointSize * n .points) (n .segments) (segments .seconds2 .ensures) (segments .before .tail2 .ensures) in
     passes (check .ensures ∙ ap totalSeconds by-points) (not-false (check .result) (c .if1 .left)) (ap₂ eqb by-segments by-points)
 
 pub good-seconds-spec : {M : Type 1} → statement M

@@ -1,7 +1,8 @@
 -- The counts are those of the header.
 use mathlib.Core.Path.{_∙_, ap}
 use borrow.Author.Needs.{needs}
-use Rattle.parts.specs.Values.{counts, runEnd}
+use Rattle.heads.specs.Values.{counts, runHeaderSize}
+use Rattle.parts.specs.Values.{runEnd}
 use Rattle.parts.proofs.Places.{enough}
 use Rattle.job.proofs.runs.next_start.Statement.{statement}
 use Rattle.job.proofs.runs.next_start.Tie as tie
@@ -12,7 +13,7 @@ tail-requires c κs = search needs
 counts-requires : tie.Need-counts-requires
 counts-requires c κs =
     let start = c .before .before in
-    enough (start .args .s .now) (start .args .start) 64 (c .tail .ensures) (start .pre)
+    enough (start .args .s .now) (start .args .start) runHeaderSize (c .tail .ensures) (start .pre)
 
 add-at-segments : tie.Need-add-at-segments
 add-at-segments c = search needs

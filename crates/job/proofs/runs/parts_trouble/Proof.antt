@@ -5,8 +5,8 @@ use borrow.Author.Needs.{needs}
 use lib.Dec.{lit≤}
 use lib.ListN.{length}
 use Rattle.fields.proofs.FirstTrouble.{first-met, first-passed, step}
-use Rattle.parts.specs.Values.{segmentPlace}
-use Rattle.parts.proofs.Layouts.{row-fits}
+use Rattle.parts.specs.Values.{segmentPlace, pointSize, segmentSize}
+use Rattle.fields.proofs.RecordTrouble.{row-fits}
 use Rattle.job.specs.Troubles.{partsTrouble}
 use Rattle.job.proofs.runs.parts_trouble.Statement.{statement}
 use Rattle.job.proofs.runs.parts_trouble.Tie as tie
@@ -46,7 +46,7 @@ troubles-requires-2 : tie.Need-troubles-requires-2
 troubles-requires-2 c κs =
     let points = c .before .before in
     let start = points .before .before .before .before .before in
-    (row-fits _ _ 12 _ _ (lit≤ tt) (start .pre) (sym (points .troubles .ensures) ∙ c .enum-told .given .1), search needs)
+    (row-fits _ _ pointSize _ _ (lit≤ tt) (start .pre) (sym (points .troubles .ensures) ∙ c .enum-told .given .1), search needs)
 
 enum-told-3 : tie.Need-enum-told-3
 enum-told-3 c = search needs
@@ -72,8 +72,8 @@ segments-end c =
     let segments = c .before .before in
     let points = segments .before .before .before in
     let start = points .before .before .before .before .before in
-    let low = row-fits _ _ 12 _ _ (lit≤ tt) (start .pre) (sym (points .troubles .ensures) ∙ segments .before .enum-told .given .1) in
-    row-fits _ _ 4 _ _ (lit≤ tt) low (sym (segments .troubles2 .ensures) ∙ c .enum-told3 .given .1)
+    let low = row-fits _ _ pointSize _ _ (lit≤ tt) (start .pre) (sym (points .troubles .ensures) ∙ segments .before .enum-told .given .1) in
+    row-fits _ _ segmentSize _ _ (lit≤ tt) low (sym (segments .troubles2 .ensures) ∙ c .enum-told3 .given .1)
 
 troubles-requires-3 : tie.Need-troubles-requires-3
 troubles-requires-3 c κs = (segments-end c, search needs)

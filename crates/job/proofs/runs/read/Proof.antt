@@ -5,22 +5,26 @@ use mathlib.Core.List.{List}
 use native.Mathlib.Nat.{le-antisymm}
 use native.Mathlib.Omega.{arith}
 use borrow.Author.Needs.{needs}
+use borrow.Author.Tests.{le-leb, lt-leb}
 use lib.ListN.{length, drop}
-use Rattle.fields.specs.declared.trouble.Trouble.the-variants.{Clear}
+use Rattle.heads.specs.Values.{runHeaderSize}
+use Rattle.readings.specs.Ranges.{greatestRunCount}
+use Rattle.fields.specs.declared.trouble.Trouble.the-variants.{Clear, At}
 use Rattle.fields.specs.Numbers.{u16At}
-use Rattle.fields.specs.Trouble.{first}
-use Rattle.fields.proofs.FirstTrouble.{clear-not-at, first-met, first-passed, none-clear, goes-on, stops, ends}
-use Rattle.parts.specs.Arrays.{padded}
-use Rattle.parts.proofs.Arrays.{pad-none, pad-more}
+use Rattle.fields.specs.Trouble.{leftOver}
+use Rattle.fields.proofs.FirstTrouble.{first-met, first-passed, none-clear, goes-on, stops, ends}
+use Rattle.arrays.specs.Arrays.{padded}
+use Rattle.arrays.proofs.Arrays.{pad-none, pad-more}
 use Rattle.parts.proofs.Places.{enough}
 use Rattle.job.specs.Places.{nextStart, runStart}
 use Rattle.job.specs.Troubles.{runTrouble, numberBefore, runsTrouble, endTrouble}
+use Rattle.job.proofs.WholeFile.{walk-stops, walk-ends}
 use Rattle.job.proofs.ClearRuns.{header-fits, run-fits, start-more, number-none, number-more}
 use Rattle.job.proofs.runs.read.Statement.{statement}
 use Rattle.job.proofs.runs.read.Tie as tie
 
 abbrev Inv-loop : tie.InvT-loop
-Inv-loop s first n starts₀ at₀ lower₀ k₀ starts at lower k = (k ≤ n) × (at ≤ length s) × (at ≡ runStart s k) × (lower ≡ numberBefore s k) × (runsTrouble s k ≡ Clear) × (starts ≡ padded 16 0 (runStart s) k)
+Inv-loop s first n starts₀ at₀ lower₀ k₀ starts at lower k = (k ≤ n) × (at ≤ length s) × (at ≡ runStart s k) × (lower ≡ numberBefore s k) × (runsTrouble s k ≡ Clear) × (starts ≡ padded greatestRunCount 0 (runStart s) k)
 
 abbrev μ-loop : tie.MeasureT-loop
 μ-loop s first n starts₀ at₀ lower₀ k₀ starts at lower k = n - k
@@ -28,7 +32,7 @@ abbrev μ-loop : tie.MeasureT-loop
 loop-holds : tie.Need-loop-holds Inv-loop μ-loop
 loop-holds c =
     let first = c .before .pre in
-    (search needs, first .2, first .1, number-none _, none-clear _, pad-none 16 0 _)
+    (search needs, first .2, first .1, number-none _, none-clear _, pad-none greatestRunCount 0 _)
 
 run-trouble-requires : tie.Need-run-trouble-requires Inv-loop μ-loop
 run-trouble-requires c κs = search needs
@@ -39,18 +43,22 @@ enum-told c = search needs
 enum-told-2 : tie.Need-enum-told-2 Inv-loop μ-loop
 enum-told-2 c = search needs
 
+stopped-requires : tie.Need-stopped-requires Inv-loop μ-loop
+stopped-requires c κs = search needs
+
 returns : tie.Need-returns Inv-loop μ-loop
 returns c =
-    let turn = c .before .before .before in
+    let call = c .before .before .before in
+    let turn = call .before in
     let passed = turn .before .loop .inv in
-    let told = c .enum-told2 .given .1 in
-    let own = c .before .before .run-trouble .ensures ∙ ap₂ (runTrouble _) (passed .2) (passed .3) in
-    record { trouble = first-met _ (stops _ _ _ (passed .4) own told (turn .loop-test .taken)) told; starts = λ e. clear-not-at e told }
+    let told = c .before .enum-told2 .given .1 in
+    let own = call .run-trouble .ensures ∙ ap₂ (runTrouble _) (passed .2) (passed .3) in
+    walk-stops _ _ (c .stopped .ensures) told (first-met _ (stops _ _ _ (passed .4) own told (turn .loop-test .taken)) told)
 
 -- the header of a clear run is complete
 complete :
     (c : tie.After-enum-told Inv-loop μ-loop)
-    → c .before .before .before .before .loop .at + 64 ≤ length (c .before .before .before .before .before .before .args .s .now)
+    → c .before .before .before .before .loop .at + runHeaderSize ≤ length (c .before .before .before .before .before .before .args .s .now)
 complete c = header-fits _ _ _ (sym (c .before .before .run-trouble .ensures) ∙ c .enum-told .given .1)
 
 mul-starts : tie.Need-mul-starts Inv-loop μ-loop
@@ -89,24 +97,34 @@ loop-again c =
       c .next-start .ensures ∙ ap (nextStart _) (passed .2) ∙ start-more _ _,
       c .before .u16-at .ensures ∙ ap (λ (t : List ℕ). u16At t 0) (read .tail .ensures ∙ ap (λ (p : ℕ). drop p s) (passed .2)) ∙ number-more _ _,
       goes-on _ _ (passed .4) own told,
-      pad-more 16 0 _ _ (passed .5) (passed .2),
+      pad-more greatestRunCount 0 _ _ (passed .5) (passed .2),
     )
 
-unless-requires : tie.Need-unless-requires Inv-loop μ-loop
-unless-requires c κs = search needs
+stopped-requires-2 : tie.Need-stopped-requires-2 Inv-loop μ-loop
+stopped-requires-2 c κs = search needs
 
+-- past all runs, bytes are left over ..
 returns-2 : tie.Need-returns-2 Inv-loop μ-loop
-unfolding first
 returns-2 c =
-    let turn = c .before .before .loop in
-    let passed = turn .inv in
+    let left = c .before .before .loop-test .left in
+    let passed = c .before .before .before .loop .inv in
+    let s = c .before .before .before .before .before .args .s .now in
+    let done = le-antisymm (passed .0) left in
+    let at = c .before .before .before .loop .at in
+    let over : At leftOver at ≡ endTrouble s at = rw (lt-leb _ _ (c .before .if1 .taken)) in
+    walk-stops _ _ (c .stopped2 .ensures) refl
+    (first-passed (ends _ _ _ (passed .4) (passed .0) left) refl (over ∙ ap (endTrouble s) (passed .2 ∙ ap (runStart _) done)))
+
+-- .. or none are
+returns-3 : tie.Need-returns-3 Inv-loop μ-loop
+returns-3 c =
+    let left = c .before .loop-test .left in
+    let passed = c .before .before .loop .inv in
     let s = c .before .before .before .before .args .s .now in
-    let done = le-antisymm (passed .0) (c .before .loop-test .left) in
-    let end = passed .2 ∙ ap (runStart _) done in
-    record {
-      trouble = first-passed (ends _ _ _ (passed .4) (passed .0) (c .before .loop-test .left)) refl (c .unless .ensures ∙ ap (endTrouble s) end);
-      starts = λ e. passed .5 ∙ ap (padded 16 0 _) done;
-    }
+    let done = le-antisymm (passed .0) left in
+    let whole : Clear ≡ endTrouble s (c .before .before .loop .at) = rw (le-leb _ _ (c .if1 .left)) in
+    walk-ends _ _ (passed .5 ∙ ap (padded greatestRunCount 0 _) done)
+    (first-passed (ends _ _ _ (passed .4) (passed .0) left) refl (whole ∙ ap (endTrouble s) (passed .2 ∙ ap (runStart _) done)))
 
 pub read-spec : {M : Type 1} → statement M
 read-spec =
@@ -118,6 +136,7 @@ read-spec =
     run-trouble-requires
     enum-told
     enum-told-2
+    stopped-requires
     returns
     mul-starts
     array-write-starts
@@ -127,5 +146,6 @@ read-spec =
     add-k
     loop-less
     loop-again
-    unless-requires
-    returns-2)
+    stopped-requires-2
+    returns-2
+    returns-3)

@@ -6,9 +6,9 @@ use borrow.Author.Needs.{needs}
 use lib.Dec.{lit≤}
 use lib.ListN.{length}
 use Rattle.fields.proofs.FirstTrouble.{first-at, first-clear, first-met, first-passed}
-use Rattle.parts.specs.declared.header.RunHeader.{RunHeader}
-use Rattle.parts.specs.Values.{header}
-use Rattle.parts.proofs.Layouts.{complete-at}
+use Rattle.records.specs.declared.RunHeader.{RunHeader}
+use Rattle.heads.specs.Values.{header, runHeaderSize}
+use Rattle.fields.proofs.RecordTrouble.{complete-at}
 use Rattle.parts.proofs.Places.{enough}
 use Rattle.job.specs.Troubles.{partsTrouble, runTrouble}
 use Rattle.job.proofs.runs.run_trouble.Statement.{statement}
@@ -28,8 +28,8 @@ unfolding runTrouble
 returns c = first-met _ (c .before .before .trouble .ensures) (c .enum-told2 .given .1)
 
 -- a header whose fields are clear is complete
-complete : (c : tie.After-enum-told) → c .before .before .before .before .args .start + 64 ≤ length (c .before .before .before .before .args .s .now)
-complete c = complete-at _ _ 64 _ (lit≤ tt) (sym (c .before .before .trouble .ensures) ∙ c .enum-told .given .1)
+complete : (c : tie.After-enum-told) → c .before .before .before .before .args .start + runHeaderSize ≤ length (c .before .before .before .before .args .s .now)
+complete c = complete-at _ _ runHeaderSize _ (lit≤ tt) (sym (c .before .before .trouble .ensures) ∙ c .enum-told .given .1)
 
 tail-requires : tie.Need-tail-requires
 tail-requires c κs = search needs
@@ -38,7 +38,7 @@ header-requires : tie.Need-header-requires
 header-requires c κs =
     let own = c .before in
     let start = own .before .before .before .before in
-    enough (start .args .s .now) (start .args .start) 64 (c .tail .ensures) (complete own)
+    enough (start .args .s .now) (start .args .start) runHeaderSize (c .tail .ensures) (complete own)
 
 returns-2 : tie.Need-returns-2
 unfolding runTrouble

@@ -1,31 +1,50 @@
--- The grids one by one; the last two are what is left.
-use mathlib.Core.Path.{sym}
-use mathlib.Core.Logic.{⊎-elim}
+-- The count rises until its square is not below the number of points; it never passes the larger count.
+use Prim.Native.Nat.{ℕ, _-_, _*_, _≤_, _<_}
+use mathlib.Core.Path.{_≡_}
+use mathlib.Core.Bool.{true}
+use native.Mathlib.Nat.{mul-le-mul}
+use native.Mathlib.Omega.{arith}
+use Rattle.readings.specs.Grids.{gridPoints}
 use Rattle.traverse.specs.Rectangle.{gridOf}
-use Rattle.traverse.proofs.RectangleLaws.{seven}
+use Rattle.traverse.proofs.RectangleLaws.{grid-ok, count-below, count-reached}
 use Rattle.traverse.proofs.grids.larger_count.Statement.{statement}
 use Rattle.traverse.proofs.grids.larger_count.Tie as tie
 
-returns : tie.Need-returns
-unfolding gridOf
-returns c = rw (c .match .keys1)
+abbrev Inv-loop : tie.InvT-loop
+Inv-loop points n count₀ count = count ≤ gridOf points .larger
 
-returns-2 : tie.Need-returns-2
-unfolding gridOf
-returns-2 c = ⊎-elim (λ e. rw e) (λ e. rw e) (c .match .keys2)
+abbrev μ-loop : tie.MeasureT-loop
+μ-loop points n count₀ count = gridOf points .larger - count
 
-returns-3 : tie.Need-returns-3
-unfolding gridOf
-returns-3 c = ⊎-elim (λ e. rw e) (λ e. rw e) (c .match .keys3)
+-- no count is too high to square
+few : (n c : ℕ) → gridPoints n ≡ true → c ≤ gridOf n .larger → c ≤ 7
+few n c e h = omega (arith, grid-ok n e .columnsFew)
 
-returns-4 : tie.Need-returns-4
-unfolding gridOf
-returns-4 c = ⊎-elim (λ e. rw e) (λ e. rw e) (c .match .keys4)
+loop-holds : tie.Need-loop-holds Inv-loop μ-loop
+loop-holds c = grid-ok _ (c .pre) .columnsSome
 
-returns-5 : tie.Need-returns-5
-returns-5 c =
-    let rest = c .match .rest in
-    sym (seven _ (c .before .pre) (rest .0 .0 .0 .1) (rest .0 .0 .1) (rest .0 .1) (rest .1))
+mul-loop : tie.Need-mul-loop Inv-loop μ-loop
+mul-loop c =
+    let small = few _ _ (c .before .pre) (c .loop .inv) in
+    let square : c .loop .count * c .loop .count ≤ 7 * 7 = mul-le-mul small small in
+    omega arith
+
+-- a square below the number of points is that of a count below the larger one
+below : (c : tie.In-loop Inv-loop μ-loop) → c .before .loop .count < gridOf (c .before .before .args .points) .larger
+below c = count-below _ _ (c .before .before .pre) (c .loop-test .taken)
+
+add-count : tie.Need-add-count Inv-loop μ-loop
+add-count c = omega (arith, few _ _ (c .before .before .pre) (c .before .loop .inv))
+
+loop-less : tie.Need-loop-less Inv-loop μ-loop
+loop-less c = omega (arith, below c)
+
+loop-again : tie.Need-loop-again Inv-loop μ-loop
+loop-again c = omega (arith, below c)
+
+returns : tie.Need-returns Inv-loop μ-loop
+returns c = count-reached _ _ (c .before .before .pre) (c .before .loop .inv) (c .loop-test .left)
 
 pub larger-count-spec : {M : Type 1} → statement M
-larger-count-spec = tie.close (tie.spec returns returns-2 returns-3 returns-4 returns-5)
+larger-count-spec =
+    tie.close (tie.spec Inv-loop μ-loop loop-holds mul-loop add-count loop-less loop-again returns)

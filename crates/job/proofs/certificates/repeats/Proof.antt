@@ -5,10 +5,10 @@ use mathlib.Core.Bool.{false}
 use borrow.Author.Needs.{needs}
 use Rattle.job.specs.Troubles.{sameCertificate, anyTo}
 use Rattle.records.specs.declared.Certificate.{Certificate}
-use Rattle.parts.specs.Values.{certificateOf}
+use Rattle.heads.specs.Values.{certificateOf}
 use Rattle.job.proofs.LookBack.{any-none, any-goes-on, any-stops, any-ends}
-use Rattle.job.proofs.certificates.stands.Statement.{statement}
-use Rattle.job.proofs.certificates.stands.Tie as tie
+use Rattle.job.proofs.certificates.repeats.Statement.{statement}
+use Rattle.job.proofs.certificates.repeats.Tie as tie
 
 abbrev Inv-loop : tie.InvT-loop
 Inv-loop s n c j₀ j = (j ≤ n) × (anyTo (λ i. sameCertificate (certificateOf s i) c) j ≡ false)
@@ -50,8 +50,8 @@ returns-2 c =
     let turn = c .before .loop .inv in
     any-ends _ _ _ (turn .1) (turn .0) (c .loop-test .left)
 
-pub stands-spec : {M : Type 1} → statement M
-stands-spec =
+pub repeats-spec : {M : Type 1} → statement M
+repeats-spec =
     tie.close
     (tie.spec
     Inv-loop
