@@ -1,12 +1,5 @@
--- The laws that the lines' proofs share.
-pub mod Promise
-pub mod Signs
-pub mod Sums
-pub mod Points
-pub mod MeteringLaws
-pub mod FlowLaws
-pub mod Passes
-pub mod SamplingLaws
-pub mod CatchLaws
-pub mod SheetLaws
+-- The laws that the proofs of the sheet share, and the paper's values.
+pub mod RunInRange
+pub mod Together
+pub mod Written
 pub mod Starred

@@ -1,8 +1,4 @@
--- The twenty lines in the paper's order, and the sheet that holds them.
+-- The twenty lines of a run, the sheet that holds them, and the paper's values.
 pub mod Promise
-pub mod Metering
-pub mod Stack
-pub mod Sampling
-pub mod Passes
 pub mod Sheet
 pub mod Starred

@@ -3,13 +3,13 @@ use Prim.Native.Nat.{ℕ}
 use mathlib.Core.List.{List, [], _∷_, map}
 use lib.IntN.{natAbs}
 use Rattle.records.specs.Worked.{workedRun}
-use Rattle.lines.specs.declared.Value.the-variants.{Known}
-use Rattle.lines.specs.declared.Diameters.the-variants.{Measured}
+use Rattle.values.specs.declared.Diameters.the-variants.{Measured}
+use Rattle.values.specs.declared.Value.the-variants.{Known}
+use Rattle.metering.specs.Metering.{correctedVolume}
+use Rattle.stack.specs.Stack.{pointRoot}
 use Rattle.lines.specs.declared.Line.{Line}
 use Rattle.lines.specs.declared.Line.the-variants.{Present, Absent}
 use Rattle.lines.specs.declared.Entry.{Entry}
-use Rattle.lines.specs.Metering.{correctedVolume}
-use Rattle.lines.specs.Stack.{pointRoot}
 use Rattle.lines.specs.Sheet.{lines, sheet}
 
 -- a statement over a list: what is worked out is what is expected
@@ -50,7 +50,3 @@ workedLines =
           3600 ∷ 40000 ∷ 39400 ∷ 301471 ∷ 5400 ∷ 38801 ∷ 4707 ∷ 10819 ∷ 30160 ∷ 28844
           ∷ 299500 ∷ 6600 ∷ 7071 ∷ 8741 ∷ 44385 ∷ 34089 ∷ 90604 ∷ 9980 ∷ 1056 ∷ 4199 ∷ [];
     }
-
--- all of them
-unfoldable pub starred : List Example
-starred = roots ∷ leak ∷ workedLines ∷ []

@@ -1,56 +1,11 @@
-// The twenty lines of the calculation sheet. Each is promised to be its equation of the paper and to lie in a range; a
-// line relies on the promises of the lines that it names and on nothing inside them. What is summed over the points comes
-// from two passes, one for the meter and one for the stack; every other line is a function of its own.
+// The twenty lines of a run together, and the sheet that they are written on. Each group of lines is a crate below with its
+// own promises; nothing here is arithmetic.
 
-pub mod flow;
-pub mod results;
 pub mod sheets;
-pub mod signed;
-pub mod volumes;
 
-// A number that a line is worked from: known, or missing where a certificate or an earlier line is.
-pub enum Value {
-    Known(u64),
-    Missing,
-}
-
-// A nozzle's three diameters, 0.001 in, where its certificate was found.
-pub enum Diameters {
-    Measured(u64, u64, u64),
-    Unknown,
-}
-
-// Lines 1 to 8.
-pub struct Metering {
-    pub time: u64,
-    pub volume: u64,
-    pub corrected: u64,
-    pub pressure: u64,
-    pub temperature: u64,
-    pub dry: Value,
-    pub vapor: u64,
-    pub moisture: Value,
-}
-
-// Lines 9 to 15.
-pub struct Stack {
-    pub dry: u64,
-    pub wet: Value,
-    pub pressure: u64,
-    pub temperature: u64,
-    pub root: u64,
-    pub density: Value,
-    pub velocity: Value,
-}
-
-// Lines 16 to 20.
-pub struct Sampling {
-    pub area: Value,
-    pub drawn: Value,
-    pub isokinetic: Value,
-    pub catch: i64,
-    pub concentration: Value,
-}
+use metering::Metering;
+use sampling::Sampling;
+use stack::Stack;
 
 // All twenty lines by name, for the findings.
 pub struct Lines {

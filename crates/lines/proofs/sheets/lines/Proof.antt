@@ -1,10 +1,12 @@
 -- The three parts of the sheet, from a run in range and the values of its certificates.
 use borrow.Author.Needs.{needs}
 use native.Mathlib.Omega.{arith}
-use Rattle.lines.proofs.SheetLaws.{traverse-ok, pb-range, gas-range, is-lines}
 use mathlib.Core.Path.{_∙_, ap}
 use Rattle.readings.specs.Ranges.{staticPressure}
-use Rattle.lines.proofs.FlowLaws.{pressure-bits}
+use Rattle.metering.proofs.RunInRange.{pb-range}
+use Rattle.stack.proofs.Pressure.{pressure-bits}
+use Rattle.lines.proofs.RunInRange.{traverse-ok, gas-range}
+use Rattle.lines.proofs.Together.{is-lines}
 use Rattle.lines.proofs.sheets.lines.Statement.{statement}
 use Rattle.lines.proofs.sheets.lines.Tie as tie
 
@@ -12,20 +14,20 @@ metering-requires : tie.Need-metering-requires
 metering-requires c κs = search needs
 
 cast-stack : tie.Need-cast-stack
-cast-stack c = omega (arith, gas-range _ (c .before .before .before .pre .run))
+cast-stack c = omega (arith, gas-range _ (c .before .before .before .before .pre .run))
 
 cast-stack-2 : tie.Need-cast-stack-2
-cast-stack-2 c = omega (arith, gas-range _ (c .before .before .before .before .pre .run))
+cast-stack-2 c = omega (arith, gas-range _ (c .before .before .before .before .before .pre .run))
 
 cast-stack-3 : tie.Need-cast-stack-3
-cast-stack-3 c = omega (arith, pb-range _ (c .before .before .before .before .before .pre .run) .1)
+cast-stack-3 c = omega (arith, pb-range _ (c .before .before .before .before .before .before .pre .run) .1)
 
 cast-stack-4 : tie.Need-cast-stack-4
-cast-stack-4 c = omega (arith, traverse-ok _ (c .before .before .before .before .before .before .pre .run) .few)
+cast-stack-4 c = omega (arith, traverse-ok _ (c .before .before .before .before .before .before .before .pre .run) .few)
 
 stack-requires : tie.Need-stack-requires
 stack-requires c κs =
-    let start = c .before .before .before .before .before .before .before in
+    let start = c .before .before .before .before .before .before .before .before in
     let ok = start .pre .run in
     let pb = pb-range _ ok in (
       (gas-range _ ok, pb .0, pb .1),
@@ -36,11 +38,14 @@ stack-requires c κs =
     )
 
 sampling-requires : tie.Need-sampling-requires
-sampling-requires c κs = search needs
+sampling-requires c κs =
+    let start = c .before .before .before .before .before .before .before .before .before in
+    let m = c .before .before .before .before .before .before .metering .ensures in
+    (start .pre .run, (m .1, (c .stack .ensures .1, start .pre .diameters)))
 
 returns : tie.Need-returns
 returns c =
-    let start = c .before .before .before .before .before .before .before .before .before in
+    let start = c .before .before .before .before .before .before .before .before .before .before in
     let m = c .before .before .before .before .before .before .before .metering .ensures in
     let s = c .before .stack .ensures in
     let p = c .sampling .ensures in (

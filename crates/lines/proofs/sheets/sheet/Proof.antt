@@ -3,10 +3,10 @@ use borrow.Author.Needs.{needs}
 use native.Mathlib.Omega.{arith}
 use mathlib.Core.List.{[], _∷_}
 use mir.Facts.{toZ-ofZ}
+use Rattle.sampling.proofs.Difference.{catch-fits}
 use Rattle.lines.specs.declared.Line.the-variants.{Present}
 use Rattle.lines.specs.Sheet.{sheet}
-use Rattle.lines.proofs.CatchLaws.{catch-fits}
-use Rattle.lines.proofs.Promise.{between-small}
+use Rattle.lines.proofs.Written.{between-small}
 use Rattle.lines.proofs.sheets.sheet.Statement.{statement}
 use Rattle.lines.proofs.sheets.sheet.Tie as tie
 

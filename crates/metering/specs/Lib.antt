@@ -1,0 +1,3 @@
+-- Lines 1 to 8 in the paper's order, and their ranges.
+pub mod Metering
+pub mod Promise

@@ -1,0 +1,68 @@
+-- Lines 16, 17, 18 and 20 case by case.
+use Prim.Native.Nat.{ℕ, _+_, _*_, _^_}
+use mathlib.Core.Path.{_≡_, refl}
+use lib.IntN.{ℤ, pos, negsuc}
+use Rattle.arith.specs.Rounding.{roundDiv}
+use Rattle.values.specs.declared.Diameters.{Diameters}
+use Rattle.values.specs.declared.Diameters.the-variants.{Measured, Unknown}
+use Rattle.values.specs.declared.Value.{Value}
+use Rattle.values.specs.declared.Value.the-variants.{Known, Missing}
+use Rattle.values.proofs.Promise.{unless-zero, unless-some}
+use Rattle.sampling.specs.Sampling.{nozzleArea, drawnGas, isokinetic, concentration}
+
+-- Line 16
+pub area-missing : {d : Diameters} → d ≡ Unknown → nozzleArea d ≡ Missing
+unfolding nozzleArea
+area-missing e = rw e
+
+pub area-known : {d : Diameters} {a b c : ℕ} → d ≡ Measured a b c → nozzleArea d ≡ Known (roundDiv (31416 * ((a + b + c) * (a + b + c))) 518400)
+unfolding nozzleArea
+area-known e = rw e
+
+-- Line 17
+pub drawn-missing : {dry : Value} (v p t : ℕ) → dry ≡ Missing → drawnGas dry v p t ≡ Missing
+unfolding drawnGas
+drawn-missing v p t e = rw e
+
+pub drawn-known : {dry : Value} {d : ℕ} (v p t : ℕ) → dry ≡ Known d → drawnGas dry v p t ≡ Known (roundDiv (945 * t * (d + v)) (10 * p))
+unfolding drawnGas
+drawn-known v p t e = rw e
+
+-- Line 18
+pub isokinetic-no-gas : {drawn : Value} (velocity area : Value) (t : ℕ) → drawn ≡ Missing → isokinetic drawn velocity area t ≡ Missing
+unfolding isokinetic
+isokinetic-no-gas velocity area t e = rw e
+
+pub isokinetic-no-velocity : {drawn velocity : Value} {g : ℕ} (area : Value) (t : ℕ) → drawn ≡ Known g → velocity ≡ Missing → isokinetic drawn velocity area t ≡ Missing
+unfolding isokinetic
+isokinetic-no-velocity area t e f = rw (e, f)
+
+pub isokinetic-no-area : {drawn velocity area : Value} {g s : ℕ} (t : ℕ) → drawn ≡ Known g → velocity ≡ Known s → area ≡ Missing → isokinetic drawn velocity area t ≡ Missing
+unfolding isokinetic
+isokinetic-no-area t e f h = rw (e, f, h)
+
+pub isokinetic-still : {drawn velocity area : Value} {g s a : ℕ} (t : ℕ) → drawn ≡ Known g → velocity ≡ Known s → area ≡ Known a → s ≡ 0 → isokinetic drawn velocity area t ≡ Missing
+unfolding isokinetic
+isokinetic-still t e f h z = rw (e, f, h) (unless-zero _ z)
+
+pub isokinetic-known : {drawn velocity area : Value} {g s a : ℕ} (t : ℕ) → drawn ≡ Known g → velocity ≡ Known s → area ≡ Known a → (s ≡ 0 → ⊥) → isokinetic drawn velocity area t ≡ Known (roundDiv (6 * 10 ^ 11 * g) (s * a * t))
+unfolding isokinetic
+isokinetic-known {s = s} t e f h some = rw (e, f, h) (unless-some s _ some)
+
+-- Line 20
+pub concentration-no-volume : {dry : Value} (z : ℤ) → dry ≡ Missing → concentration z dry ≡ Missing
+unfolding concentration
+concentration-no-volume (pos n) e = rw e
+concentration-no-volume (negsuc n) e = refl
+
+pub concentration-negative : {z : ℤ} {n : ℕ} (dry : Value) → z ≡ negsuc n → concentration z dry ≡ Missing
+unfolding concentration
+concentration-negative dry e = rw e
+
+pub concentration-zero : {z : ℤ} {n d : ℕ} {dry : Value} → z ≡ pos n → dry ≡ Known d → d ≡ 0 → concentration z dry ≡ Missing
+unfolding concentration
+concentration-zero e f h = rw (e, f) (unless-zero _ h)
+
+pub concentration-known : {z : ℤ} {n d : ℕ} {dry : Value} → z ≡ pos n → dry ≡ Known d → (d ≡ 0 → ⊥) → concentration z dry ≡ Known (roundDiv (154300 * n) d)
+unfolding concentration
+concentration-known {d = d} e f some = rw (e, f) (unless-some d _ some)
