@@ -1,6 +1,6 @@
 -- What a run in range and its lines keep small enough to judge.
 use Prim.Native.Nat.{ℕ, _+_, _≤_, _<_}
-use mathlib.Core.Path.{_≡_, sym, _∙_}
+use mathlib.Core.Path.{_≡_}
 use native.Mathlib.Nat.{lt-of-lt-of-le}
 use native.Mathlib.Omega.{arith}
 use Rattle.readings.proofs.Ranges.{within-greatest}
@@ -9,12 +9,10 @@ use Rattle.lines.specs.declared.Lines.{Lines}
 use Rattle.lines.specs.Metering.{time, meteredVolume}
 use Rattle.lines.specs.Sheet.{metering, lines}
 use Rattle.certs.specs.declared.Chosen.{Chosen}
-use Rattle.findings.specs.declared.rules.Part.{Part}
-use Rattle.findings.specs.Rules.{placesOf}
-use Rattle.findings.specs.Parts.{Judged}
-use Rattle.findings.specs.Listing.{linesFor, Worked}
+use Rattle.rules.specs.declared.Beside.{Beside}
+use Rattle.rules.specs.Rules.{ruleCount, Judgeable, placesOf}
+use Rattle.findings.specs.Listing.{besideOf, linesFor, Worked}
 use Rattle.findings.proofs.Places.{inside-points, inside-segments, inside-weighings}
-use Rattle.findings.proofs.Parts.{partOf, whole-of-run}
 
 worked-time : (r : Run) (ch : Chosen) (l : Lines) → Worked r ch l → l .metering .time ≤ 36000
 unfolding linesFor lines metering time
@@ -36,12 +34,8 @@ module _ (r : Run) (ch : Chosen) (l : Lines) (w : Worked r ch l) where
   pub weighing-in : {rule i : ℕ} → rule ≡ 17 → i < placesOf (r .counts) rule → i < 8
   weighing-in e h = lt-of-lt-of-le (inside-weighings _ e h) (within-greatest 0 8 _ (w .ok .countOfWeighings))
 
-  -- Any of the twenty rules can be judged by the part that it looks at
-  pub judged : (rule i : ℕ) {part : Part} → 1 ≤ rule → rule ≤ 20 → part ≡ partOf r rule i → Judged part (r .counts) l rule
-  judged rule i first last is =
-      record {
-        whole = λ e. whole-of-run r i first last (sym is ∙ e);
-        weighings = within-greatest 0 8 _ (w .ok .countOfWeighings);
-        time = worked-time r ch l w;
-        volume = worked-volume r ch l w;
-      }
+  -- Any of the twenty rules can be judged beside what it may see of the run
+  pub judgeable : {rule : ℕ} {beside : Beside} → 1 ≤ rule → rule ≤ ruleCount → beside ≡ besideOf r ch l → Judgeable beside rule
+  unfolding besideOf
+  judgeable first last is =
+      rw is (record { first = first; last = last; time = worked-time r ch l w; volume = worked-volume r ch l w })

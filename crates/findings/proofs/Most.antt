@@ -1,4 +1,4 @@
--- A run has at most 98 findings: of 3 and 6, of 4 and 5, and of 12 to 16 at most one can be broken, and with eight weighings not both 18 and 19.
+-- A run has at mostFindings 98 findings: of 3 and 6, of 4 and 5, and of 12 to 16 at mostFindings one can be broken, and with eight weighings not both 18 and 19.
 use Prim.Native.Nat.{ℕ, zero, suc, _+_, _≤_, _<_}
 use mathlib.Core.Path.{_≡_, refl, _∙_, ap}
 use mathlib.Core.Bool.{Bool, true, false, cond}
@@ -22,9 +22,9 @@ use Rattle.certs.specs.declared.Lookup.the-variants.{Found, Nothing}
 use Rattle.certs.specs.declared.Chosen.{Chosen}
 use Rattle.certs.specs.declared.comparison.Way.the-variants.{Below, Above, Same}
 use Rattle.certs.specs.Comparing.{holds}
-use Rattle.findings.specs.Grounds.{broken}
-use Rattle.findings.specs.Rules.{missing, moved, uneven, judged, ofKind, oneOfKind, lacking, certificateGrounds, lineGrounds, weighingGrounds, groundOf, placesOf}
-use Rattle.findings.specs.Listing.{brokenAt, findingAt, ruleFindings, findingsTo, findings, linesFor, findingsFor, most, Worked}
+use Rattle.rules.specs.Grounds.{broken}
+use Rattle.rules.specs.Rules.{missing, moved, uneven, lineAgainst, ofKind, oneOfKind, lacking, certificateGrounds, lineGrounds, weighingGrounds, groundOf, placesOf}
+use Rattle.findings.specs.Listing.{brokenAt, findingAt, ruleFindings, findingsTo, findings, linesFor, findingsFor, mostFindings, Worked}
 use Rattle.findings.proofs.Filling.{rising}
 use Rattle.findings.proofs.Absent.{no-volume, no-moisture, no-gas, no-velocity, no-flow}
 
@@ -91,8 +91,8 @@ factor-once b (Found a) = omega (arith, bit-le (broken (moved b (Found a))))
 none-known : Known 0 ≡ Missing → ⊥
 none-known e = let z : _≡_ {A = ℕ} 0 1 = cc in omega arith
 
-zero-once : (v : Value) (rest : ℕ) → rest ≤ 1 → (v ≡ Known 0 → rest ≡ 0) → bit (broken (judged v Same 0)) + rest ≤ 1
-unfolding broken judged holds
+zero-once : (v : Value) (rest : ℕ) → rest ≤ 1 → (v ≡ Known 0 → rest ≡ 0) → bit (broken (lineAgainst v Same 0)) + rest ≤ 1
+unfolding broken lineAgainst holds
 zero-once Missing rest le none = omega arith
 zero-once (Known n) rest le none = go (eqb n 0) (λ e. none (ap Known (eqb-true n 0 e)))
   where
@@ -100,13 +100,13 @@ zero-once (Known n) rest le none = go (eqb n 0) (λ e. none (ap Known (eqb-true 
     go true h = omega (arith, h refl)
     go false h = omega arith
 
-zero-missing : (v : Value) (rest : ℕ) → v ≡ Missing → rest ≡ 0 → bit (broken (judged v Same 0)) + rest ≡ 0
-unfolding broken judged
+zero-missing : (v : Value) (rest : ℕ) → v ≡ Missing → rest ≡ 0 → bit (broken (lineAgainst v Same 0)) + rest ≡ 0
+unfolding broken lineAgainst
 zero-missing v rest e none = rw e (omega arith)
 
 -- the percent isokinetic is not below 9,000 and above 11,000
-percent-once : (v : Value) → bit (broken (judged v Below 9000)) + bit (broken (judged v Above 11000)) ≤ 1
-unfolding broken judged holds
+percent-once : (v : Value) → bit (broken (lineAgainst v Below 9000)) + bit (broken (lineAgainst v Above 11000)) ≤ 1
+unfolding broken lineAgainst holds
 percent-once Missing = omega arith
 percent-once (Known n) = go (ltb n 9000) refl
   where
@@ -117,8 +117,8 @@ percent-once (Known n) = go (ltb n 9000) refl
         rw (le-ltb 11000 n not-high) (omega arith)
     go false e = omega (arith, bit-le (ltb 11000 n))
 
-percent-missing : (v : Value) → v ≡ Missing → bit (broken (judged v Below 9000)) + bit (broken (judged v Above 11000)) ≡ 0
-unfolding broken judged
+percent-missing : (v : Value) → v ≡ Missing → bit (broken (lineAgainst v Below 9000)) + bit (broken (lineAgainst v Above 11000)) ≡ 0
+unfolding broken lineAgainst
 percent-missing v e = rw e (omega arith)
 
 -- 18 and 19: a weighing is of a filter or of a rinse
@@ -165,10 +165,10 @@ module _ (r : Run) (ch : Chosen) (l : Lines) (w : Worked r ch l) where
       (λ e. after-velocity (no-gas r ch l (w .lines) e)))
       (λ e. let zero-volume : l .metering .corrected ≡ 0 = cc in after-dry (no-volume r ch l (w .lines) zero-volume))
     where
-      after-velocity : l .stack .velocity ≡ Missing → bit (broken (judged (l .stack .velocity) Same 0)) + (bit (broken (judged (l .sampling .isokinetic) Below 9000)) + bit (broken (judged (l .sampling .isokinetic) Above 11000))) ≡ 0
+      after-velocity : l .stack .velocity ≡ Missing → bit (broken (lineAgainst (l .stack .velocity) Same 0)) + (bit (broken (lineAgainst (l .sampling .isokinetic) Below 9000)) + bit (broken (lineAgainst (l .sampling .isokinetic) Above 11000))) ≡ 0
       after-velocity e = zero-missing _ _ e (percent-missing _ (no-velocity r ch l (w .lines) e))
 
-      after-dry : l .metering .dry ≡ Missing → bit (broken (judged (l .metering .dry) Same 0)) + (bit (broken (judged (l .stack .velocity) Same 0)) + (bit (broken (judged (l .sampling .isokinetic) Below 9000)) + bit (broken (judged (l .sampling .isokinetic) Above 11000)))) ≡ 0
+      after-dry : l .metering .dry ≡ Missing → bit (broken (lineAgainst (l .metering .dry) Same 0)) + (bit (broken (lineAgainst (l .stack .velocity) Same 0)) + (bit (broken (lineAgainst (l .sampling .isokinetic) Below 9000)) + bit (broken (lineAgainst (l .sampling .isokinetic) Above 11000)))) ≡ 0
       after-dry e = zero-missing _ _ e (after-velocity (no-moisture r ch l (w .lines) e))
 
   -- how many findings rule number `rule` has
@@ -204,7 +204,7 @@ module _ (r : Run) (ch : Chosen) (l : Lines) (w : Worked r ch l) where
       let kind = w .ok .weighings i inside .kind in
       (within-least 1 2 _ kind, within-greatest 1 2 _ kind)))
 
-  pub all-fit : length (findingsTo (brokenAt r ch l) (placesOf (r .counts)) 20) ≤ most
+  pub all-fit : length (findingsTo (brokenAt r ch l) (placesOf (r .counts)) 20) ≤ mostFindings
   unfolding placesOf sumTo has
   all-fit =
       let points : r .counts .points ≤ 64 = within-greatest 1 64 _ (w .ok .countOfPoints) in
@@ -219,12 +219,12 @@ module _ (r : Run) (ch : Chosen) (l : Lines) (w : Worked r ch l) where
       let twenty : has 20 ≤ 1 = has-le 20 in
       omega (arith, many-all (brokenAt r ch l) (placesOf (r .counts)) 20, three-and-six, four-and-five, twelve-to-sixteen, seventeen-to-nineteen)
 
-  -- At most 98 findings
-  pub at-most : length (findings r ch l) ≤ most
+  -- At mostFindings 98 findings
+  pub at-most : length (findings r ch l) ≤ mostFindings
   unfolding findings
   at-most = all-fit
 
 -- with the lines that a run in range gives
-pub at-most-for : (r : Run) (ch : Chosen) → RunOk r → length (findingsFor r ch) ≤ most
+pub at-most-for : (r : Run) (ch : Chosen) → RunOk r → length (findingsFor r ch) ≤ mostFindings
 unfolding findingsFor
 at-most-for r ch ok = at-most r ch (linesFor r ch) (record { ok = ok; lines = refl })

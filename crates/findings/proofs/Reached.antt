@@ -20,9 +20,9 @@ use Rattle.certs.specs.declared.Lookup.the-variants.{Nothing}
 use Rattle.certs.specs.declared.Chosen.{Chosen}
 use Rattle.certs.specs.Comparing.{holds, distance}
 use Rattle.certs.specs.Factor.{factorOf, coefficientOf, diametersOf}
-use Rattle.findings.specs.Grounds.{broken}
-use Rattle.findings.specs.Rules.{missing, moved, uneven, diameter, halfDiameter, undisturbed, minimumPoints, nextGrid, nextAllowed, judged, ofKind, certificateGrounds, siteGrounds, fieldGrounds, lineGrounds, weighingGrounds, groundOf, placesOf}
-use Rattle.findings.specs.Listing.{brokenAt, ruleFindings, findingsTo, findings, linesFor, findingsFor, most}
+use Rattle.rules.specs.Grounds.{broken}
+use Rattle.rules.specs.Rules.{missing, moved, uneven, diameter, halfDiameter, undisturbed, minimumPoints, nextGrid, nextAllowed, lineAgainst, ofKind, certificateGrounds, siteGrounds, fieldGrounds, lineGrounds, weighingGrounds, groundOf, placesOf}
+use Rattle.findings.specs.Listing.{brokenAt, ruleFindings, findingsTo, findings, linesFor, findingsFor, mostFindings}
 
 point : Point
 point = record { seconds = 1; head = 0; orifice = 0; stack = pos 0; inlet = pos 0; outlet = pos 0 }
@@ -92,10 +92,10 @@ full-in-range =
       balanced = refl;
     }
 
-full-findings : length (findingsFor fullRun noCertificates) ≡ most
-unfolding fullRun point segment filter noCertificates findingsFor linesFor findings findingsTo ruleFindings brokenAt broken groundOf placesOf certificateGrounds siteGrounds fieldGrounds lineGrounds weighingGrounds missing moved uneven diameter halfDiameter undisturbed minimumPoints nextGrid nextAllowed judged ofKind holds distance factorOf coefficientOf diametersOf lines metering stack sampling time meteredVolume allowance leakLoss leakLosses correctedVolume dryVolume moisture wetWeight densityRoot velocity drawnGas isokinetic finalWeights tares catch deduction roundDiv unlessZero sumTo
+full-findings : length (findingsFor fullRun noCertificates) ≡ mostFindings
+unfolding fullRun point segment filter noCertificates findingsFor linesFor findings findingsTo ruleFindings brokenAt broken groundOf placesOf certificateGrounds siteGrounds fieldGrounds lineGrounds weighingGrounds missing moved uneven diameter halfDiameter undisturbed minimumPoints nextGrid nextAllowed lineAgainst ofKind holds distance factorOf coefficientOf diametersOf lines metering stack sampling time meteredVolume allowance leakLoss leakLosses correctedVolume dryVolume moisture wetWeight densityRoot velocity drawnGas isokinetic finalWeights tares catch deduction roundDiv unlessZero sumTo
 full-findings = refl
 
 -- Some run in range has 98
-pub reached : (r : Run) × (ch : Chosen) × (RunOk r × (length (findingsFor r ch) ≡ most))
+pub reached : (r : Run) × (ch : Chosen) × (RunOk r × (length (findingsFor r ch) ≡ mostFindings))
 reached = (fullRun, noCertificates, (full-in-range, full-findings))

@@ -16,7 +16,7 @@ use Rattle.records.specs.declared.Run.{Run}
 use Rattle.lines.specs.declared.Lines.{Lines}
 use Rattle.certs.specs.declared.Chosen.{Chosen}
 use Rattle.findings.specs.declared.Finding.{Finding}
-use Rattle.findings.specs.Rules.{placesOf, placeOf, classOf}
+use Rattle.rules.specs.Rules.{placesOf, placeAt, classOf}
 use Rattle.findings.specs.Listing.{brokenAt, findingAt, ruleFindings, findingsTo, findings, noFinding, Precedes}
 use Rattle.findings.proofs.Members.{at-index, OfRule, OfRules, rule-members, all-members}
 
@@ -44,8 +44,8 @@ whole-run false true c p s w e = absurd (true≢false e)
 whole-run false false true p s w e = absurd (true≢false e)
 whole-run false false false p s w e = refl
 
-place-rising : (n : Counts) (rule i j : ℕ) → i < j → j < placesOf n rule → placeOf rule i < placeOf rule j
-unfolding placesOf placeOf
+place-rising : (n : Counts) (rule i j : ℕ) → i < j → j < placesOf n rule → placeAt rule i < placeAt rule j
+unfolding placesOf placeAt
 place-rising n rule i j l inside = go (oneOf (10 ∷ 11 ∷ 17 ∷ []) rule) refl
   where
     go : (t : Bool) → oneOf (10 ∷ 11 ∷ 17 ∷ []) rule ≡ t → cond t (i + 1) 0 < cond t (j + 1) 0
