@@ -11,12 +11,14 @@ use borrow.Author.Tests.{eqb-true, eq-eqb, leb-true, le-leb, ltb-true, ltb-false
 use lib.Dec.{eqb, ltb}
 use Rattle.records.specs.declared.Identity.{Identity}
 use Rattle.records.specs.declared.Certificate.{Certificate}
-use Rattle.records.specs.declared.Run.{Run}
+use Rattle.records.specs.declared.RunHeader.{RunHeader}
 use Rattle.records.specs.Records.{sameIdentity}
-use Rattle.records.proofs.Identities.{both-left, both-right, same-equal, same-refl}
+use Rattle.readings.specs.Ranges.{meter, pitot, nozzle}
+use Rattle.readings.proofs.Ranges.{both-left, both-right}
+use Rattle.records.proofs.Identities.{same-equal, same-refl}
 use Rattle.certs.specs.declared.Lookup.{Lookup}
 use Rattle.certs.specs.declared.Lookup.the-variants.{Found, Nothing}
-use Rattle.certs.specs.Choosing.{soDated, nearer, eligible, keep, replaces, chosen, chosenFor, meter, pitot, nozzle, Dated, NoNearer, Eligible, NoneSoDated, Nearest, Unique, Included, SameMembers, SameForRun}
+use Rattle.certs.specs.Choosing.{soDated, nearer, eligible, keep, replaces, chosen, chosenFor, Dated, NoNearer, Eligible, NoneSoDated, Nearest, Unique, Included, SameMembers, SameForRun}
 
 -- where a best was found, the nearer one counts
 where-found : (k : ℕ) (near : Bool) → (not (ltb 0 (suc k)) || near) ≡ near
@@ -292,12 +294,12 @@ module _ (after : Bool) (kind : ℕ) (identity : Identity) (day : ℕ) (f : ℕ 
           ap Found (one-found unique same b c (chosen-found after kind identity day f n b d) (chosen-found after kind identity day g m c e))
 
 -- Demand 3 for certificates: a run's certificates hang on those of its own meter, pitot tube and nozzle alone
-pub chosenFor-same-members : (r : Run) (f : ℕ → Certificate) (n : ℕ) (g : ℕ → Certificate) (m : ℕ) → Unique f n → SameForRun r f n g m → chosenFor f n r ≡ chosenFor g m r
+pub chosenFor-same-members : (h : RunHeader) (f : ℕ → Certificate) (n : ℕ) (g : ℕ → Certificate) (m : ℕ) → Unique f n → SameForRun h f n g m → chosenFor f n h ≡ chosenFor g m h
 unfolding chosenFor
-chosenFor-same-members r f n g m unique same =
+chosenFor-same-members h f n g m unique same =
     λ i. record {
-      before = chosen-same-members false meter (r .meter) (r .day) f n g m unique (same .meter) i;
-      after = chosen-same-members true meter (r .meter) (r .day) f n g m unique (same .meter) i;
-      pitot = chosen-same-members false pitot (r .pitot) (r .day) f n g m unique (same .pitot) i;
-      nozzle = chosen-same-members false nozzle (r .nozzle) (r .day) f n g m unique (same .nozzle) i;
+      before = chosen-same-members false meter (h .meter) (h .day) f n g m unique (same .meter) i;
+      after = chosen-same-members true meter (h .meter) (h .day) f n g m unique (same .meter) i;
+      pitot = chosen-same-members false pitot (h .pitot) (h .day) f n g m unique (same .pitot) i;
+      nozzle = chosen-same-members false nozzle (h .nozzle) (h .day) f n g m unique (same .nozzle) i;
     }

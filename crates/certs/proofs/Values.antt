@@ -3,20 +3,21 @@ use Prim.Native.Nat.{ℕ, _≤_, min}
 use mathlib.Core.Path.{_≡_, refl}
 use mathlib.Core.Bool.{Bool, true, false, cond}
 use native.Mathlib.Omega.{arith}
-use Rattle.readings.specs.Ranges.{within}
+use Rattle.readings.specs.Ranges.{within, leastFactor, greatestFactor, leastCoefficient, greatestCoefficient}
 use Rattle.readings.proofs.Ranges.{within-least, within-greatest}
 use Rattle.records.specs.declared.Certificate.{Certificate}
 use Rattle.records.specs.declared.Identity.{Identity}
-use Rattle.records.specs.declared.Run.{Run}
+use Rattle.records.specs.declared.RunHeader.{RunHeader}
+use Rattle.records.specs.InRange.{NozzleOk, CertificateOk}
 use Rattle.lines.specs.declared.Value.the-variants.{Known, Missing}
-use Rattle.lines.specs.Promise.{Between}
+use Rattle.lines.specs.Promise.{Between, DiametersOk}
 use Rattle.certs.specs.declared.Lookup.{Lookup}
 use Rattle.certs.specs.declared.Lookup.the-variants.{Found, Nothing}
 use Rattle.certs.specs.declared.Chosen.{Chosen}
 use Rattle.certs.specs.Choosing.{chosen, chosenFor, Nearest}
 use Rattle.certs.specs.Comparing.{holds}
-use Rattle.certs.specs.Factor.{factorMoved, factor, factorFrom, factorOf, firstValue, coefficientOf, threeValues, diametersOf}
-use Rattle.certs.specs.InRange.{CertificateOk, CertificatesOk, NozzleOk, ChosenOk, DiametersBetween}
+use Rattle.certs.specs.Factor.{factorMoved, factor, factorFrom, factorOf, coefficientFrom, coefficientOf, diametersFrom, diametersOf}
+use Rattle.certs.specs.InRange.{CertificatesOk, ChosenOk}
 use Rattle.certs.proofs.Choosing.{chosen-found}
 
 -- a reading in range, from least to greatest
@@ -32,9 +33,9 @@ found-ok after kind identity day f n ok c e =
     let best : Nearest after kind identity day f n c = chosen-found after kind identity day f n c e in
     (best .eligible .is .kind, rw (best .there) at (ok .each (best .index) (best .inside)))
 
-pub chosen-in-range : (f : ℕ → Certificate) (n : ℕ) (r : Run) → CertificatesOk f n → ChosenOk (chosenFor f n r)
+pub chosen-in-range : (f : ℕ → Certificate) (n : ℕ) (h : RunHeader) → CertificatesOk f n → ChosenOk (chosenFor f n h)
 unfolding chosenFor
-chosen-in-range f n r ok =
+chosen-in-range f n h ok =
     record {
       before = λ c e. let (kind, fine) = found-ok _ _ _ _ f n ok c e in fine .factor kind;
       after = λ c e. let (kind, fine) = found-ok _ _ _ _ f n ok c e in fine .factor kind;
@@ -57,27 +58,27 @@ known least greatest v h = record { known = λ n e. let same : v ≡ n = cc in r
 missing : (least greatest : ℕ) → Between least greatest Missing
 missing least greatest = record { known = λ n e. let z : _≡_ {A = ℕ} 0 1 = cc in absurd (omega arith) }
 
-factor-from : (b a : Lookup) → ((c : Certificate) → b ≡ Found c → within 9000 11000 (c .first) ≡ true) → ((c : Certificate) → a ≡ Found c → within 9000 11000 (c .first) ≡ true) → Between 9000 11000 (factorFrom b a)
+factor-from : (b a : Lookup) → ((c : Certificate) → b ≡ Found c → within leastFactor greatestFactor (c .first) ≡ true) → ((c : Certificate) → a ≡ Found c → within leastFactor greatestFactor (c .first) ≡ true) → Between leastFactor greatestFactor (factorFrom b a)
 factor-from Nothing a hb ha = missing _ _
 factor-from (Found b) Nothing hb ha = known _ _ _ (in-range _ _ _ (hb b refl))
 factor-from (Found b) (Found a) hb ha =
     known _ _ _ (factor-within _ _ _ _ (in-range _ _ _ (hb b refl)) (in-range _ _ _ (ha a refl)))
 
--- Y lies from 9,000 to 11,000
-pub factor-range : (ch : Chosen) → ChosenOk ch → Between 9000 11000 (factorOf ch)
+-- Y lies in the range of factors
+pub factor-range : (ch : Chosen) → ChosenOk ch → Between leastFactor greatestFactor (factorOf ch)
 unfolding factorOf
 factor-range ch ok = factor-from (ch .before) (ch .after) (ok .before) (ok .after)
 
-first-value : (least greatest : ℕ) (l : Lookup) → ((c : Certificate) → l ≡ Found c → within least greatest (c .first) ≡ true) → Between least greatest (firstValue l)
-first-value least greatest Nothing h = missing _ _
-first-value least greatest (Found c) h = known _ _ _ (in-range _ _ _ (h c refl))
+coefficient-from : (least greatest : ℕ) (l : Lookup) → ((c : Certificate) → l ≡ Found c → within least greatest (c .first) ≡ true) → Between least greatest (coefficientFrom l)
+coefficient-from least greatest Nothing h = missing _ _
+coefficient-from least greatest (Found c) h = known _ _ _ (in-range _ _ _ (h c refl))
 
--- Cp lies from 500 to 1,000
-pub coefficient-range : (ch : Chosen) → ChosenOk ch → Between 500 1000 (coefficientOf ch)
+-- Cp lies in the range of coefficients
+pub coefficient-range : (ch : Chosen) → ChosenOk ch → Between leastCoefficient greatestCoefficient (coefficientOf ch)
 unfolding coefficientOf
-coefficient-range ch ok = first-value 500 1000 (ch .pitot) (ok .pitot)
+coefficient-range ch ok = coefficient-from leastCoefficient greatestCoefficient (ch .pitot) (ok .pitot)
 
-measured : (l : Lookup) → ((c : Certificate) → l ≡ Found c → NozzleOk c) → DiametersBetween 100 1000 (threeValues l)
+measured : (l : Lookup) → ((c : Certificate) → l ≡ Found c → NozzleOk c) → DiametersOk (diametersFrom l)
 measured Nothing h = record { measured = λ x y z e. let w : _≡_ {A = ℕ} 0 1 = cc in absurd (omega arith) }
 measured (Found c) h =
     record {
@@ -91,7 +92,7 @@ measured (Found c) h =
           );
     }
 
--- The diameters lie from 100 to 1,000 each
-pub diameters-range : (ch : Chosen) → ChosenOk ch → DiametersBetween 100 1000 (diametersOf ch)
+-- The diameters lie in the range of diameters
+pub diameters-range : (ch : Chosen) → ChosenOk ch → DiametersOk (diametersOf ch)
 unfolding diametersOf
 diameters-range ch ok = measured (ch .nozzle) (ok .nozzle)

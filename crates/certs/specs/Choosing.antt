@@ -3,23 +3,14 @@ use Prim.Native.Nat.{ℕ, zero, suc, _≤_, _<_}
 use mathlib.Core.Path.{_≡_}
 use mathlib.Core.Bool.{Bool, true, false, cond, not, _&&_, _||_}
 use lib.Dec.{leb, ltb, eqb}
+use Rattle.readings.specs.Ranges.{meter, pitot, nozzle}
 use Rattle.records.specs.declared.Identity.{Identity}
 use Rattle.records.specs.declared.Certificate.{Certificate}
-use Rattle.records.specs.declared.Run.{Run}
+use Rattle.records.specs.declared.RunHeader.{RunHeader}
 use Rattle.records.specs.Records.{sameIdentity}
 use Rattle.certs.specs.declared.Lookup.{Lookup}
 use Rattle.certs.specs.declared.Lookup.the-variants.{Found, Nothing}
 use Rattle.certs.specs.declared.Chosen.{Chosen}
-
--- what a certificate is of
-abbrev pub meter : ℕ
-meter = 1
-
-abbrev pub pitot : ℕ
-pitot = 2
-
-abbrev pub nozzle : ℕ
-nozzle = 3
 
 -- before: on or before the day; after: later than the day
 abbrev pub soDated : Bool → ℕ → ℕ → Bool
@@ -54,13 +45,13 @@ chosen after kind identity day f (suc n) =
     cond (eligible after kind identity day (f n)) (keep after best (f n)) best
 
 -- A run's certificates: of its meter before and after, of its pitot tube and of its nozzle before
-unfoldable pub chosenFor : (ℕ → Certificate) → ℕ → Run → Chosen
-chosenFor f n r =
+unfoldable pub chosenFor : (ℕ → Certificate) → ℕ → RunHeader → Chosen
+chosenFor f n h =
     record {
-      before = chosen false meter (r .meter) (r .day) f n;
-      after = chosen true meter (r .meter) (r .day) f n;
-      pitot = chosen false pitot (r .pitot) (r .day) f n;
-      nozzle = chosen false nozzle (r .nozzle) (r .day) f n;
+      before = chosen false meter (h .meter) (h .day) f n;
+      after = chosen true meter (h .meter) (h .day) f n;
+      pitot = chosen false pitot (h .pitot) (h .day) f n;
+      nozzle = chosen false nozzle (h .nozzle) (h .day) f n;
     }
 
 -- What the choice is promised to be, in the paper's words
@@ -111,7 +102,7 @@ pub record SameMembers (kind : ℕ) (identity : Identity) (f : ℕ → Certifica
   pub back : Included kind identity g m f n
 
 -- two jobs hold the same certificates of the meter, the pitot tube and the nozzle that a run names
-pub record SameForRun (r : Run) (f : ℕ → Certificate) (n : ℕ) (g : ℕ → Certificate) (m : ℕ) : Type 0 where
-  pub meter : SameMembers meter (r .meter) f n g m
-  pub pitot : SameMembers pitot (r .pitot) f n g m
-  pub nozzle : SameMembers nozzle (r .nozzle) f n g m
+pub record SameForRun (h : RunHeader) (f : ℕ → Certificate) (n : ℕ) (g : ℕ → Certificate) (m : ℕ) : Type 0 where
+  pub meter : SameMembers meter (h .meter) f n g m
+  pub pitot : SameMembers pitot (h .pitot) f n g m
+  pub nozzle : SameMembers nozzle (h .nozzle) f n g m

@@ -6,21 +6,21 @@ use Rattle.certs.specs.declared.comparison.Way.{Way}
 use Rattle.certs.specs.declared.comparison.Way.the-variants.{Below, Above, Same, Differs}
 use Rattle.certs.specs.declared.comparison.Comparison.{Comparison}
 
--- a stands to b this way
-abbrev pub stands : Way → ℕ → ℕ → Bool
-stands Below a b = ltb a b
-stands Above a b = ltb b a
-stands Same a b = eqb a b
-stands Differs a b = not (eqb a b)
+-- a standsTo to b this way
+abbrev pub standsTo : Way → ℕ → ℕ → Bool
+standsTo Below a b = ltb a b
+standsTo Above a b = ltb b a
+standsTo Same a b = eqb a b
+standsTo Differs a b = not (eqb a b)
 
--- the left number stands to the right one as the comparison says
+-- the left number standsTo to the right one as the comparison says
 unfoldable pub holds : Comparison → Bool
-holds c = stands (c .way) (c .left) (c .right)
+holds c = standsTo (c .way) (c .left) (c .right)
 
 -- the comparison of a with b
 abbrev pub compare : ℕ → Way → ℕ → Comparison
 compare a way b = record { left = a; way = way; right = b }
 
 -- how far apart two numbers are
-unfoldable pub distance : ℕ → ℕ → ℕ
-distance a b = a - b + (b - a)
+unfoldable pub apart : ℕ → ℕ → ℕ
+apart a b = a - b + (b - a)

@@ -10,11 +10,11 @@ use Rattle.certs.specs.declared.Lookup.the-variants.{Found, Nothing}
 use Rattle.certs.specs.declared.Chosen.{Chosen}
 use Rattle.certs.specs.declared.comparison.Way.the-variants.{Above}
 use Rattle.certs.specs.declared.comparison.Comparison.{Comparison}
-use Rattle.certs.specs.Comparing.{holds, compare, distance}
+use Rattle.certs.specs.Comparing.{holds, compare, apart}
 
 -- the after factor differs from the before factor by more than 5 percent of the before factor
 unfoldable pub factorMoved : ℕ → ℕ → Comparison
-factorMoved before after = compare (20 * distance before after) Above before
+factorMoved before after = compare (20 * apart before after) Above before
 
 -- Y from a before factor and an after factor: the lower of the two where the factor moved, otherwise the before factor
 unfoldable pub factor : ℕ → ℕ → ℕ
@@ -30,18 +30,18 @@ factorFrom (Found b) (Found a) = Known (factor (b .first) (a .first))
 unfoldable pub factorOf : Chosen → Value
 factorOf ch = factorFrom (ch .before) (ch .after)
 
-abbrev pub firstValue : Lookup → Value
-firstValue Nothing = Missing
-firstValue (Found c) = Known (c .first)
+abbrev pub coefficientFrom : Lookup → Value
+coefficientFrom Nothing = Missing
+coefficientFrom (Found c) = Known (c .first)
 
 -- The coefficient Cp: missing without a pitot certificate
 unfoldable pub coefficientOf : Chosen → Value
-coefficientOf ch = firstValue (ch .pitot)
+coefficientOf ch = coefficientFrom (ch .pitot)
 
-abbrev pub threeValues : Lookup → Diameters
-threeValues Nothing = Unknown
-threeValues (Found c) = Measured (c .first) (c .second) (c .third)
+abbrev pub diametersFrom : Lookup → Diameters
+diametersFrom Nothing = Unknown
+diametersFrom (Found c) = Measured (c .first) (c .second) (c .third)
 
 -- The nozzle's three diameters: unknown without a nozzle certificate
 unfoldable pub diametersOf : Chosen → Diameters
-diametersOf ch = threeValues (ch .nozzle)
+diametersOf ch = diametersFrom (ch .nozzle)

@@ -1,7 +1,7 @@
 // A comparison of two whole numbers: what a rule sets against what, and which way it is broken.
 
 ghost use mathlib.Core.Path.{_≡_};
-ghost use Rattle.certs.specs.Comparing.{holds, distance};
+ghost use Rattle.certs.specs.Comparing.{holds, apart};
 
 // Which way a comparison goes.
 pub enum Way {
@@ -33,8 +33,8 @@ impl Comparison {
 }
 
 // How far apart two numbers are.
-pub fn distance(a: u64, b: u64) -> u64
-    ensures { λ r. ⌜ r ≡ distance a b ⌝ }
+pub fn apart(a: u64, b: u64) -> u64
+    ensures { λ r. ⌜ r ≡ apart a b ⌝ }
 {
     if a < b { b - a } else { a - b }
 }

@@ -18,7 +18,7 @@ pub fn factor_moved(before: u16, after: u16) -> Comparison
     ensures { λ r. ⌜ r ≡ factorMoved before after ⌝ }
 {
     Comparison {
-        left: PARTS * comparison::distance(before as u64, after as u64),
+        left: PARTS * comparison::apart(before as u64, after as u64),
         way: Way::Above,
         right: before as u64,
     }

@@ -4,14 +4,15 @@
 pub mod comparison;
 pub mod factor;
 
-use parts::certificate;
+use heads::certificate;
+use readings::certificates::CertificateKind;
 use records::Certificate;
 use records::Identity;
-use records::Run;
+use records::RunHeader;
 ghost use mathlib.Core.Path.{_≡_};
 ghost use Prim.Native.Nat.{_≤_};
 ghost use lib.ListN.{length};
-ghost use Rattle.parts.specs.Values.{certificatePlace, certificateOf};
+ghost use Rattle.heads.specs.Values.{certificatePlace, certificateOf};
 ghost use Rattle.certs.specs.Choosing.{soDated, nearer, eligible, replaces, chosen, chosenFor};
 
 // What a search for a certificate answers.
@@ -38,7 +39,7 @@ fn so_dated(day: u16, dated: u16, after: bool) -> bool
     dated <= day
 }
 
-// Whether of two days on the asked side the second is nearer the run.
+// Whether of two days on the asked side the second is nearer the header.
 fn nearer_day(first: u16, second: u16, after: bool) -> bool
     ensures { λ r. ⌜ r ≡ nearer after first second ⌝ }
 {
@@ -106,14 +107,42 @@ pub fn choose(s: &[u8], count: usize, kind: u8, identity: Identity, day: u16, af
 }
 
 // The certificates of a run among the first `count` of its file, each found through `choose`.
-pub fn choose_all(s: &[u8], count: usize, run: Run) -> Chosen
+pub fn choose_all(s: &[u8], count: usize, header: RunHeader) -> Chosen
     requires { ⌜ certificatePlace count ≤ length (now s) ⌝ }
-    ensures { λ r. ⌜ r ≡ chosenFor (certificateOf (now (s .entry))) count run ⌝ }
+    ensures { λ r. ⌜ r ≡ chosenFor (certificateOf (now (s .entry))) count header ⌝ }
 {
     Chosen {
-        before: choose(s, count, certificate::METER, run.meter, run.day, false),
-        after: choose(s, count, certificate::METER, run.meter, run.day, true),
-        pitot: choose(s, count, certificate::PITOT, run.pitot, run.day, false),
-        nozzle: choose(s, count, certificate::NOZZLE, run.nozzle, run.day, false),
+        before: choose(
+            s,
+            count,
+            CertificateKind::METER,
+            header.meter,
+            header.day,
+            false,
+        ),
+        after: choose(
+            s,
+            count,
+            CertificateKind::METER,
+            header.meter,
+            header.day,
+            true,
+        ),
+        pitot: choose(
+            s,
+            count,
+            CertificateKind::PITOT,
+            header.pitot,
+            header.day,
+            false,
+        ),
+        nozzle: choose(
+            s,
+            count,
+            CertificateKind::NOZZLE,
+            header.nozzle,
+            header.day,
+            false,
+        ),
     }
 }

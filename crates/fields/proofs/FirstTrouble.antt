@@ -11,7 +11,7 @@ use borrow.Author.Tests.{leb-true}
 use lib.Dec.{leb}
 use Rattle.fields.specs.declared.trouble.Trouble.{Trouble}
 use Rattle.fields.specs.declared.trouble.Trouble.the-variants.{Clear, At}
-use Rattle.fields.specs.Trouble.{first, judged, unless, Row, checks, placeOf, from, upTo}
+use Rattle.fields.specs.Trouble.{first, troubleUnless, unless, Row, checks, troublePlace, from, upTo}
 
 -- Clear is no trouble at any place
 pub clear-not-at : {X : Type 0} {t : Trouble} {n p : ℕ} → t ≡ Clear → t ≡ At n p → X
@@ -57,10 +57,10 @@ unfolding first
 clear-right Clear u e = e
 clear-right (At n p) u e = clear-not-at e refl
 
--- a judgement is clear exactly if all was well
-pub judged-clear : (ok : Bool) (n p : ℕ) → judged ok n p ≡ Clear → ok ≡ true
-judged-clear true n p e = refl
-judged-clear false n p e = clear-not-at e refl
+-- no trouble exactly if all was well
+pub unless-clear : (ok : Bool) (n p : ℕ) → troubleUnless ok n p ≡ Clear → ok ≡ true
+unless-clear true n p e = refl
+unless-clear false n p e = clear-not-at e refl
 
 -- A record's rows
 
@@ -82,16 +82,16 @@ pub checks-first : (t : Trouble) (rs : List Row) → checks t rs ≡ first t (ch
 unfolding checks first
 checks-first t [] = sym (clear-last t)
 checks-first t (r ∷ rs) =
-    let own = judged (r .ok) (r .number) (r .place) in
+    let own = troubleUnless (r .ok) (r .number) (r .place) in
     checks-first (first t own) rs ∙ first-assoc t own (checks Clear rs) ∙ ap (first t) (sym (checks-first own rs))
 
 pub checks-clear : (rs : List Row) → checks Clear rs ≡ Clear → AllGood rs
 unfolding checks first
 checks-clear [] e = tt
 checks-clear (r ∷ rs) e =
-    let own = judged (r .ok) (r .number) (r .place) in
+    let own = troubleUnless (r .ok) (r .number) (r .place) in
     let parts : first own (checks Clear rs) ≡ Clear = sym (checks-first own rs) ∙ e in
-    (judged-clear _ _ _ (clear-left own (checks Clear rs) parts), checks-clear rs (clear-right own (checks Clear rs) parts))
+    (unless-clear _ _ _ (clear-left own (checks Clear rs) parts), checks-clear rs (clear-right own (checks Clear rs) parts))
 
 -- What can be said of every trouble's number and place
 
@@ -118,9 +118,9 @@ unfolding first
 first-told P Clear u e f = f
 first-told P (At n p) u e f = e
 
-pub judged-told : (P : ℕ → ℕ → Bool) (ok : Bool) (n p : ℕ) → P n p ≡ true → told P (judged ok n p) ≡ true
-judged-told P true n p e = refl
-judged-told P false n p e = e
+pub unless-told : (P : ℕ → ℕ → Bool) (ok : Bool) (n p : ℕ) → P n p ≡ true → told P (troubleUnless ok n p) ≡ true
+unless-told P true n p e = refl
+unless-told P false n p e = e
 
 pub checks-told : (P : ℕ → ℕ → Bool) (t : Trouble) (rs : List Row) → told P t ≡ true → each P rs ≡ true → told P (checks t rs) ≡ true
 unfolding checks
@@ -128,14 +128,14 @@ checks-told P t [] e f = e
 checks-told P t (r ∷ rs) e f =
     let own = and-left (P (r .number) (r .place)) (each P rs) f in
     checks-told P (unless t (r .ok) (r .number) (r .place)) rs
-    (first-told P t _ e (judged-told P (r .ok) (r .number) (r .place) own))
+    (first-told P t _ e (unless-told P (r .ok) (r .number) (r .place) own))
     (and-right (P (r .number) (r .place)) (each P rs) f)
 
 -- the rows' places reach no further than m
-pub checks-reach : (m : ℕ) (rs : List Row) → each (λ n p. leb p m) rs ≡ true → placeOf (checks Clear rs) ≤ m
+pub checks-reach : (m : ℕ) (rs : List Row) → each (λ n p. leb p m) rs ≡ true → troublePlace (checks Clear rs) ≤ m
 checks-reach m rs e = reach (checks Clear rs) (checks-told (λ n p. leb p m) Clear rs refl e)
   where
-    reach : (t : Trouble) → told (λ n p. leb p m) t ≡ true → placeOf t ≤ m
+    reach : (t : Trouble) → told (λ n p. leb p m) t ≡ true → troublePlace t ≤ m
     reach Clear f = omega arith
     reach (At n p) f = leb-true p m f
 

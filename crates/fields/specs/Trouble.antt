@@ -2,6 +2,8 @@
 use Prim.Native.Nat.{ℕ, zero, suc, _+_}
 use mathlib.Core.Bool.{Bool, cond}
 use mathlib.Core.List.{List, [], _∷_}
+use lib.Dec.{leb}
+use lib.ListN.{length, drop}
 use Rattle.fields.specs.declared.trouble.Trouble.{Trouble}
 use Rattle.fields.specs.declared.trouble.Trouble.the-variants.{Clear, At}
 
@@ -11,12 +13,12 @@ first Clear later = later
 first (At number place) later = At number place
 
 -- clear if all is well, else trouble
-abbrev pub judged : Bool → ℕ → ℕ → Trouble
-judged ok number place = cond ok Clear (At number place)
+abbrev pub troubleUnless : Bool → ℕ → ℕ → Trouble
+troubleUnless ok number place = cond ok Clear (At number place)
 
 -- the trouble met so far, or else this one, unless all is well
 abbrev pub unless : Trouble → Bool → ℕ → ℕ → Trouble
-unless t ok number place = first t (judged ok number place)
+unless t ok number place = first t (troubleUnless ok number place)
 
 -- The refusal numbers of a file
 
@@ -72,14 +74,19 @@ checks t [] = t
 checks t (r ∷ rs) = checks (unless t (r .ok) (r .number) (r .place)) rs
 
 -- the place of a trouble, 0 if there is none
-abbrev pub placeOf : Trouble → ℕ
-placeOf Clear = 0
-placeOf (At number place) = place
+abbrev pub troublePlace : Trouble → ℕ
+troublePlace Clear = 0
+troublePlace (At number place) = place
 
 -- a place in a record, counted from the start of the file
 abbrev pub from : ℕ → Trouble → Trouble
 from start Clear = Clear
 from start (At number place) = At number (start + place)
+
+-- the trouble of a record at a place of a file: complete, then row by row
+unfoldable pub recordTrouble : List ℕ → ℕ → ℕ → List Row → Trouble
+recordTrouble s at size rows =
+    first (troubleUnless (leb size (length (drop at s))) incomplete (length s)) (from at (checks Clear rows))
 
 -- Records in a row
 

@@ -2,7 +2,7 @@
 
 ghost use mathlib.Core.Path.{_≡_};
 ghost use Prim.Native.Nat.{_+_, _^_, _<_};
-ghost use Rattle.fields.specs.Trouble.{unless, from, placeOf};
+ghost use Rattle.fields.specs.Trouble.{unless, from, troublePlace};
 
 pub enum Trouble {
     Clear,
@@ -48,7 +48,7 @@ impl Trouble {
 
     // A record's trouble, its place counted from the start of the file and no more from the record's own start.
     pub fn from(self, start: usize) -> Trouble
-        requires { ⌜ start + placeOf self < 2 ^ 64 ⌝ }
+        requires { ⌜ start + troublePlace self < 2 ^ 64 ⌝ }
         ensures { λ r. ⌜ r ≡ from start self ⌝ }
     {
         match self {

@@ -11,7 +11,7 @@ use lib.ListN.{length, drop, take, length-drop, length-append, take-append-drop}
 use lib.Seq.{take-all, take-take, length-take-le}
 use Rattle.fields.specs.declared.trouble.Trouble.{Trouble}
 use Rattle.fields.specs.declared.trouble.Trouble.the-variants.{Clear, At}
-use Rattle.fields.specs.Trouble.{first, judged, repeated, wrongSeconds, leftOver, Row, checks, from, upTo}
+use Rattle.fields.specs.Trouble.{first, troubleUnless, repeated, wrongSeconds, leftOver, Row, checks, from, upTo}
 use Rattle.fields.proofs.FirstTrouble.{clear-left}
 use Rattle.records.specs.declared.Counts.{Counts}
 use Rattle.records.specs.declared.Point.{Point}
@@ -102,7 +102,7 @@ module _ (p a b : List ℕ) (whole : length p ≡ longestJob) (more : 1 ≤ leng
       first-same _ _ _ (record-same (front-of certificateRows certificate-front) (certificatePlace k) (omega arith))
       (λ own.
       let earlier = any-ext _ _ k (λ j l. ap₂ sameCertificate (certificate-same j (lt-trans l h)) (certificate-same k h)) in
-      ap (λ (stood : Bool). judged (not stood) repeated (certificatePlace k)) earlier)
+      ap (λ (stood : Bool). troubleUnless (not stood) repeated (certificatePlace k)) earlier)
 
   certificates-same : fileTrouble (p ++ a) ≡ Clear → certificatesTrouble (p ++ a) ≡ certificatesTrouble (p ++ b)
   certificates-same file =
@@ -131,7 +131,7 @@ module _ (p a b : List ℕ) (whole : length p ≡ longestJob) (more : 1 ≤ leng
       first-same _ _ _ (row-same (front-of segmentRows segment-front) (pointPlace start (n .points)) (n .segments) (omega arith))
       (λ clear.
       first-same _ _ _ (row-same weighing-rows-front (segmentPlace start n (n .segments)) (n .weighings) (omega arith))
-      (λ clear. ap (λ (ok : Bool). judged ok wrongSeconds start) (seconds-same start n h few))))
+      (λ clear. ap (λ (ok : Bool). troubleUnless ok wrongSeconds start) (seconds-same start n h few))))
 
   run-same : (start lower : ℕ) → start + longestRun ≤ longestJob → runTrouble (p ++ a) start lower ≡ runTrouble (p ++ b) start lower
   unfolding runTrouble
@@ -139,7 +139,7 @@ module _ (p a b : List ℕ) (whole : length p ≡ longestJob) (more : 1 ≤ leng
       first-same _ _ _ (record-same (front-of headerRows header-front) start (omega arith))
       (λ own.
       ap (first _) (parts-same start (headerAt (p ++ a) start .counts) h (few-parts (p ++ a) start own))
-      ∙ ap (λ (x : RunHeader). first (judged (ltb lower (x .number)) repeated start) (partsTrouble (p ++ b) start (x .counts))) (header-same start h))
+      ∙ ap (λ (x : RunHeader). first (troubleUnless (ltb lower (x .number)) repeated start) (partsTrouble (p ++ b) start (x .counts))) (header-same start h))
 
   -- a run starts at the same place if those before it are clear
   module _ (file : fileTrouble (p ++ a) ≡ Clear) where

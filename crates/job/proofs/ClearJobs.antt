@@ -9,7 +9,7 @@ use native.Mathlib.Omega.{arith}
 use borrow.Author.Tests.{leb-true, eq-eqb, not-true}
 use lib.ListN.{length}
 use Rattle.fields.specs.declared.trouble.Trouble.the-variants.{Clear}
-use Rattle.fields.proofs.FirstTrouble.{clear-left, clear-right, judged-clear, each-clear}
+use Rattle.fields.proofs.FirstTrouble.{clear-left, clear-right, unless-clear, each-clear}
 use Rattle.readings.proofs.Ranges.{within-greatest}
 use Rattle.records.specs.declared.Identity.{Identity}
 use Rattle.records.specs.Records.{sameIdentity}
@@ -40,7 +40,7 @@ job-clear s e =
       file = clear-left _ _ e;
       certificates = clear-left _ _ after;
       runs = clear-left _ _ rest;
-      end = leb-true _ _ (judged-clear _ _ _ (clear-right _ _ rest));
+      end = leb-true _ _ (unless-clear _ _ _ (clear-right _ _ rest));
     }
 
 -- Runs
@@ -112,7 +112,7 @@ clear-certificate s e k h = certificate-ok s (certificatePlace k) (clear-left _ 
 -- no two certificates are the same ..
 pub none-same : (s : List ℕ) → jobTrouble s ≡ Clear → (i j : ℕ) → i < j → j < certificateCountOf s → sameCertificate (certificateOf s i) (certificateOf s j) ≡ false
 none-same s e i j less h =
-    let alone : stands s j ≡ false = not-true (stands s j) (judged-clear _ _ _ (clear-right _ _ (each-entry s e j h))) in
+    let alone : stands s j ≡ false = not-true (stands s j) (unless-clear _ _ _ (clear-right _ _ (each-entry s e j h))) in
     none-of _ j alone i less
 
 -- .. that is, no two agree in kind, identity and day

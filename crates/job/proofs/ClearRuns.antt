@@ -8,7 +8,7 @@ use borrow.Author.Tests.{ltb-true, eqb-true}
 use lib.Dec.{lit≤}
 use lib.ListN.{length}
 use Rattle.fields.specs.declared.trouble.Trouble.the-variants.{Clear}
-use Rattle.fields.proofs.FirstTrouble.{clear-left, clear-right, judged-clear}
+use Rattle.fields.proofs.FirstTrouble.{clear-left, clear-right, unless-clear}
 use Rattle.readings.specs.Ranges.{totalSeconds}
 use Rattle.records.proofs.Identities.{both-left, both-right}
 use Rattle.parts.specs.Values.{headerAt, pointPlace, segmentPlace, pointTotal, segmentTotal}
@@ -33,10 +33,10 @@ run-clear s start lower e =
     let parts = clear-right _ _ after in
     let after-points = clear-right _ _ parts in
     let after-segments = clear-right _ _ after-points in
-    let seconds = judged-clear _ _ _ (clear-right _ _ after-segments) in
+    let seconds = unless-clear _ _ _ (clear-right _ _ after-segments) in
     record {
       header = clear-left _ _ e;
-      above = ltb-true _ _ (judged-clear _ _ _ (clear-left _ _ after));
+      above = ltb-true _ _ (unless-clear _ _ _ (clear-left _ _ after));
       points = clear-left _ _ parts;
       segments = clear-left _ _ after-points;
       weighings = clear-left _ _ after-segments;

@@ -8,7 +8,7 @@ use lib.Dec.{leb, ltb}
 use lib.ListN.{length}
 use Rattle.fields.specs.declared.trouble.Trouble.{Trouble}
 use Rattle.fields.specs.declared.trouble.Trouble.the-variants.{At}
-use Rattle.fields.proofs.FirstTrouble.{told, first-told, judged-told, up-told}
+use Rattle.fields.proofs.FirstTrouble.{told, first-told, unless-told, up-told}
 use Rattle.records.specs.declared.Counts.{Counts}
 use Rattle.records.proofs.Identities.{both-left, both-right}
 use Rattle.parts.specs.Values.{headerAt, certificatePlace}
@@ -24,20 +24,20 @@ abbrev Known : Trouble → Type 0
 Known t = told known t ≡ true
 
 entry-known : (s : List ℕ) (k : ℕ) → Known (entryTrouble s k)
-entry-known s k = first-told known _ _ (told-at (λ n. known n 0) s _ 16 _ refl refl) (judged-told known (not (stands s k)) 6 (certificatePlace k) refl)
+entry-known s k = first-told known _ _ (told-at (λ n. known n 0) s _ 16 _ refl refl) (unless-told known (not (stands s k)) 6 (certificatePlace k) refl)
 
 parts-known : (s : List ℕ) (start : ℕ) (n : Counts) → Known (partsTrouble s start n)
 unfolding partsTrouble
 parts-known s start n =
     first-told known _ _ (up-told known _ (n .points) (λ i. told-at (λ n. known n 0) s _ 12 _ refl refl))
     (first-told known _ _ (up-told known _ (n .segments) (λ i. told-at (λ n. known n 0) s _ 4 _ refl refl))
-    (first-told known _ _ (up-told known _ (n .weighings) (λ i. told-at (λ n. known n 0) s _ 14 _ refl refl)) (judged-told known (goodSeconds s start n) 7 start refl)))
+    (first-told known _ _ (up-told known _ (n .weighings) (λ i. told-at (λ n. known n 0) s _ 14 _ refl refl)) (unless-told known (goodSeconds s start n) 7 start refl)))
 
 run-known : (s : List ℕ) (start lower : ℕ) → Known (runTrouble s start lower)
 unfolding runTrouble
 run-known s start lower =
     first-told known _ _ (told-at (λ n. known n 0) s start 64 _ refl refl)
-    (first-told known _ _ (judged-told known (ltb lower (headerAt s start .number)) 6 start refl) (parts-known s start _))
+    (first-told known _ _ (unless-told known (ltb lower (headerAt s start .number)) 6 start refl) (parts-known s start _))
 
 job-known : (s : List ℕ) → Known (jobTrouble s)
 unfolding jobTrouble
@@ -45,7 +45,7 @@ job-known s =
     let end = runStart s (runCountOf s) in
     first-told known _ _ (told-at (λ n. known n 0) s 0 9 _ refl refl)
     (first-told known _ _ (up-told known (entryTrouble s) _ (entry-known s))
-    (first-told known _ _ (up-told known _ _ (λ k. run-known s (runStart s k) (numberBefore s k))) (judged-told known (leb (length s) end) 8 end refl)))
+    (first-told known _ _ (up-told known _ _ (λ k. run-known s (runStart s k) (numberBefore s k))) (unless-told known (leb (length s) end) 8 end refl)))
 
 pub numbers : (s : List ℕ) {n p : ℕ} → jobTrouble s ≡ At n p → (1 ≤ n) × (n ≤ 8)
 numbers s {n} {p} e =

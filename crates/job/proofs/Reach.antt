@@ -10,7 +10,7 @@ use lib.Dec.{leb, ltb, lit≤}
 use lib.ListN.{length, drop, length-drop}
 use Rattle.fields.specs.declared.trouble.Trouble.{Trouble}
 use Rattle.fields.specs.declared.trouble.Trouble.the-variants.{Clear, At}
-use Rattle.fields.specs.Trouble.{first, judged, incomplete, repeated, wrongSeconds, leftOver, Row, checks, placeOf, from, upTo}
+use Rattle.fields.specs.Trouble.{first, troubleUnless, incomplete, repeated, wrongSeconds, leftOver, Row, checks, troublePlace, from, upTo}
 use Rattle.fields.proofs.FirstTrouble.{each, clear-left, each-clear, checks-reach}
 use Rattle.readings.proofs.Ranges.{within-greatest}
 use Rattle.records.specs.declared.Counts.{Counts}
@@ -26,32 +26,32 @@ use Rattle.job.proofs.WholeFile.{certificate-count, run-count}
 
 module _ {m : ℕ} where
   -- the later of two matters only where the earlier is clear
-  first-reach : (t u : Trouble) → placeOf t ≤ m → (t ≡ Clear → placeOf u ≤ m) → placeOf (first t u) ≤ m
+  first-reach : (t u : Trouble) → troublePlace t ≤ m → (t ≡ Clear → troublePlace u ≤ m) → troublePlace (first t u) ≤ m
   unfolding first
   first-reach Clear u h later = later refl
   first-reach (At n p) u h later = h
 
-  judged-reach : (ok : Bool) (n p : ℕ) → p ≤ m → placeOf (judged ok n p) ≤ m
-  judged-reach true n p h = omega arith
-  judged-reach false n p h = h
+  unless-reach : (ok : Bool) (n p : ℕ) → p ≤ m → troublePlace (troubleUnless ok n p) ≤ m
+  unless-reach true n p h = omega arith
+  unless-reach false n p h = h
 
-  up-reach : (f : ℕ → Trouble) (n : ℕ) → ((i : ℕ) → i < n → upTo f i ≡ Clear → placeOf (f i) ≤ m) → placeOf (upTo f n) ≤ m
+  up-reach : (f : ℕ → Trouble) (n : ℕ) → ((i : ℕ) → i < n → upTo f i ≡ Clear → troublePlace (f i) ≤ m) → troublePlace (upTo f n) ≤ m
   unfolding upTo
   up-reach f zero h = omega arith
   up-reach f (suc n) h = first-reach (upTo f n) (f n) (up-reach f n (λ i l. h i (lt-trans l (lt-suc-self n)))) (h n (lt-suc-self n))
 
-from-reach : (start m : ℕ) (t : Trouble) → placeOf t ≤ m → placeOf (from start t) ≤ start + m
+from-reach : (start m : ℕ) (t : Trouble) → troublePlace t ≤ m → troublePlace (from start t) ≤ start + m
 from-reach start m Clear h = omega arith
 from-reach start m (At n p) h = omega arith
 
 -- a record: no further than its end, also where the file ends before that
-record-reach : (s : List ℕ) (at size : ℕ) (rows : List Row) {m : ℕ} → each (λ n p. leb p size) rows ≡ true → at + size ≤ m → placeOf (recordTrouble s at size rows) ≤ m
+record-reach : (s : List ℕ) (at size : ℕ) (rows : List Row) {m : ℕ} → each (λ n p. leb p size) rows ≡ true → at + size ≤ m → troublePlace (recordTrouble s at size rows) ≤ m
 unfolding recordTrouble
 record-reach s at size rows {m} low room =
     first-reach _ _ (short (leb size (length (drop at s))) refl)
     (λ whole. le-trans (from-reach at size (checks Clear rows) (checks-reach size rows low)) room)
   where
-    short : (ok : Bool) → leb size (length (drop at s)) ≡ ok → placeOf (judged ok incomplete (length s)) ≤ m
+    short : (ok : Bool) → leb size (length (drop at s)) ≡ ok → troublePlace (troubleUnless ok incomplete (length s)) ≤ m
     short true e = omega arith
     short false e = omega (arith, leb-false size (length (drop at s)) e, length-drop at s)
 
@@ -60,7 +60,7 @@ row-reach :
     (s : List ℕ) (at size : ℕ) (rows : ℕ → List Row) (n : ℕ) {m : ℕ}
     → ((i : ℕ) → each (λ n p. leb p size) (rows i) ≡ true)
     → at + size * n ≤ m
-    → placeOf (upTo (λ i. recordTrouble s (at + size * i) size (rows i)) n) ≤ m
+    → troublePlace (upTo (λ i. recordTrouble s (at + size * i) size (rows i)) n) ≤ m
 row-reach s at size rows n {m} low room =
     up-reach _ n
     (λ i h clear.
@@ -89,21 +89,21 @@ few-parts s start e =
       weighings = within-greatest 0 8 _ (good .1 .1 .0);
     }
 
-run-reach : (s : List ℕ) (start lower : ℕ) {m : ℕ} → start + longestRun ≤ m → placeOf (runTrouble s start lower) ≤ m
+run-reach : (s : List ℕ) (start lower : ℕ) {m : ℕ} → start + longestRun ≤ m → troublePlace (runTrouble s start lower) ≤ m
 unfolding runTrouble partsTrouble
 run-reach s start lower {m} room =
     first-reach _ _ (record-reach s start 64 _ refl (omega arith))
     (λ header.
     let n = headerAt s start .counts in
     let few = few-parts s start header in
-    first-reach _ _ (judged-reach (ltb lower (headerAt s start .number)) repeated start (omega arith))
+    first-reach _ _ (unless-reach (ltb lower (headerAt s start .number)) repeated start (omega arith))
     (λ above.
     first-reach _ _ (row-reach s _ 12 _ (n .points) (λ i. refl) (omega arith))
     (λ points.
     first-reach _ _ (row-reach s _ 4 _ (n .segments) (λ i. refl) (omega arith))
     (λ segments.
     first-reach _ _ (row-reach s _ 14 _ (n .weighings) (λ i. refl) (omega arith))
-    (λ weighings. judged-reach (goodSeconds s start n) wrongSeconds start (omega arith))))))
+    (λ weighings. unless-reach (goodSeconds s start n) wrongSeconds start (omega arith))))))
 
 -- where a run starts if those before it are clear: after the header, at most 64 certificates and those runs
 pub start-reach : (s : List ℕ) → fileTrouble s ≡ Clear → (k : ℕ) → runsTrouble s k ≡ Clear → runStart s k ≤ 9 + 16 * 64 + longestRun * k
@@ -120,12 +120,12 @@ start-reach s e (suc k) clear =
 abbrev pub longestJob : ℕ
 longestJob = 17161
 
-entry-reach : (s : List ℕ) (k : ℕ) {m : ℕ} → certificatePlace k + 16 ≤ m → placeOf (entryTrouble s k) ≤ m
+entry-reach : (s : List ℕ) (k : ℕ) {m : ℕ} → certificatePlace k + 16 ≤ m → troublePlace (entryTrouble s k) ≤ m
 entry-reach s k room =
     first-reach _ _ (record-reach s (certificatePlace k) 16 _ refl room)
-    (λ own. judged-reach (not (stands s k)) repeated (certificatePlace k) (omega arith))
+    (λ own. unless-reach (not (stands s k)) repeated (certificatePlace k) (omega arith))
 
-job-reach : (s : List ℕ) → placeOf (jobTrouble s) ≤ longestJob
+job-reach : (s : List ℕ) → troublePlace (jobTrouble s) ≤ longestJob
 unfolding jobTrouble
 job-reach s =
     first-reach _ _ (record-reach s 0 9 _ refl (lit≤ tt))
@@ -135,7 +135,7 @@ job-reach s =
     first-reach _ _ (up-reach (entryTrouble s) _ (λ k h clear. entry-reach s k (omega arith)))
     (λ held.
     first-reach _ _ (up-reach _ _ (λ k h clear. run-reach s (runStart s k) (numberBefore s k) (omega (arith, start-reach s file k clear))))
-    (λ walked. judged-reach (leb (length s) (runStart s (runCountOf s))) leftOver _ (omega (arith, start-reach s file _ walked)))))
+    (λ walked. unless-reach (leb (length s) (runStart s (runCountOf s))) leftOver _ (omega (arith, start-reach s file _ walked)))))
 
 pub places : (s : List ℕ) {n p : ℕ} → jobTrouble s ≡ At n p → p ≤ 17161
-places s e = subst (λ (t : Trouble). placeOf t ≤ longestJob) e (job-reach s)
+places s e = subst (λ (t : Trouble). troublePlace t ≤ longestJob) e (job-reach s)

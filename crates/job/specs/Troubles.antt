@@ -6,7 +6,7 @@ use lib.Dec.{leb, ltb, eqb}
 use lib.ListN.{length}
 use Rattle.fields.specs.declared.trouble.Trouble.{Trouble}
 use Rattle.fields.specs.Numbers.{byteAt, u16At}
-use Rattle.fields.specs.Trouble.{first, judged, wrongMark, wrongVersion, repeated, wrongSeconds, leftOver, Row, count, upTo}
+use Rattle.fields.specs.Trouble.{first, troubleUnless, wrongMark, wrongVersion, repeated, wrongSeconds, leftOver, Row, count, upTo}
 use Rattle.readings.specs.Ranges.{certificateCount, runCount, totalSeconds}
 use Rattle.records.specs.declared.Certificate.{Certificate}
 use Rattle.records.specs.declared.Counts.{Counts}
@@ -50,7 +50,7 @@ stands s k = anyTo (λ j. sameCertificate (certificateOf s j) (certificateOf s k
 
 -- a certificate's fields, and then that it does not repeat an earlier one
 abbrev pub entryTrouble : List ℕ → ℕ → Trouble
-entryTrouble s k = first (certificateTrouble s (certificatePlace k)) (judged (not (stands s k)) repeated (certificatePlace k))
+entryTrouble s k = first (certificateTrouble s (certificatePlace k)) (troubleUnless (not (stands s k)) repeated (certificatePlace k))
 
 abbrev pub certificatesTrouble : List ℕ → Trouble
 certificatesTrouble s = upTo (entryTrouble s) (certificateCountOf s)
@@ -67,13 +67,13 @@ partsTrouble s start n =
     first (pointsTrouble s (start + 64) (n .points))
     (first (segmentsTrouble s (pointPlace start (n .points)) (n .segments))
     (first (weighingsTrouble s (segmentPlace start n (n .segments)) (n .weighings))
-    (judged (goodSeconds s start n) wrongSeconds start)))
+    (troubleUnless (goodSeconds s start n) wrongSeconds start)))
 
 -- a run whose number has to be above `lower`
 unfoldable pub runTrouble : List ℕ → ℕ → ℕ → Trouble
 runTrouble s start lower =
     first (headerTrouble s start)
-    (first (judged (ltb lower (headerAt s start .number)) repeated start) (partsTrouble s start (headerAt s start .counts)))
+    (first (troubleUnless (ltb lower (headerAt s start .number)) repeated start) (partsTrouble s start (headerAt s start .counts)))
 
 -- the number of the run before, 0 for the first run
 unfoldable pub numberBefore : List ℕ → ℕ → ℕ
@@ -87,7 +87,7 @@ runsTrouble s n = upTo (λ k. runTrouble s (runStart s k) (numberBefore s k)) n
 
 -- bytes stand after the last run
 abbrev pub endTrouble : List ℕ → ℕ → Trouble
-endTrouble s end = judged (leb (length s) end) leftOver end
+endTrouble s end = troubleUnless (leb (length s) end) leftOver end
 
 unfoldable pub jobTrouble : List ℕ → Trouble
 jobTrouble s =

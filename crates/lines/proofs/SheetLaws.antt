@@ -21,57 +21,57 @@ use Rattle.lines.specs.Sampling.{nozzleArea, drawnGas, isokinetic, catch
 use Rattle.lines.specs.Sheet.{metering, stack, sampling, lines}
 
 module _ (r : Run) (ok : RunOk r) where
-  pub points-ok : PointsOk (r .points) (r .counts .points)
+  pub points-ok : PointsOk (r .points) (r .header .counts .points)
   points-ok =
       record {
-        some = within-least 1 64 _ (ok .countOfPoints);
-        few = within-greatest 1 64 _ (ok .countOfPoints);
+        some = within-least 1 64 _ (ok .header .points);
+        few = within-greatest 1 64 _ (ok .header .points);
         each = ok .points;
       }
 
-  pub traverse-ok : TraverseOk (r .points) (r .counts .points)
+  pub traverse-ok : TraverseOk (r .points) (r .header .counts .points)
   traverse-ok =
       record {
-        some = within-least 1 64 _ (ok .countOfPoints);
-        few = within-greatest 1 64 _ (ok .countOfPoints);
+        some = within-least 1 64 _ (ok .header .points);
+        few = within-greatest 1 64 _ (ok .header .points);
         heads = λ i inside. ok .points i inside .head;
         temperatures = λ i inside. ok .points i inside .stack;
       }
 
-  pub segments-ok : SegmentsOk (r .segments) (r .counts .segments)
-  segments-ok = record { few = within-greatest 1 16 _ (ok .countOfSegments); each = ok .segments }
+  pub segments-ok : SegmentsOk (r .segments) (r .header .counts .segments)
+  segments-ok = record { few = within-greatest 1 16 _ (ok .header .segments); each = ok .segments }
 
-  pub weighings-ok : WeighingsOk (r .weighings) (r .counts .weighings)
-  weighings-ok = record { few = within-greatest 0 8 _ (ok .countOfWeighings); each = ok .weighings }
+  pub weighings-ok : WeighingsOk (r .weighings) (r .header .counts .weighings)
+  weighings-ok = record { few = within-greatest 0 8 _ (ok .header .weighings); each = ok .weighings }
 
-  pub time-most : time (r .points) (r .counts .points) ≤ 36000
+  pub time-most : time (r .points) (r .header .counts .points) ≤ 36000
   unfolding time
   time-most = within-greatest 0 36000 _ (ok .total)
 
-  pub readings-apart : (r .first ≤ r .last) × (r .last ≤ r .first + 999999)
+  pub readings-apart : (r .header .first ≤ r .header .last) × (r .header .last ≤ r .header .first + 999999)
   readings-apart =
-      let least : r .first + 0 ≤ r .last = within-least (r .first + 0) (r .first + 999999) _ (ok .last) in
-      (omega arith, within-greatest (r .first + 0) (r .first + 999999) _ (ok .last))
+      let least : r .header .first + 0 ≤ r .header .last = within-least (r .header .first + 0) (r .header .first + 999999) _ (ok .header .last) in
+      (omega arith, within-greatest (r .header .first + 0) (r .header .first + 999999) _ (ok .header .last))
 
-  pub pb-range : (2000 ≤ r .pb) × (r .pb ≤ 3200)
-  pb-range = (within-least 2000 3200 _ (ok .pb), within-greatest 2000 3200 _ (ok .pb))
+  pub pb-range : (2000 ≤ r .header .pb) × (r .header .pb ≤ 3200)
+  pb-range = (within-least 2000 3200 _ (ok .header .pb), within-greatest 2000 3200 _ (ok .header .pb))
 
-  pub gas-range : r .co2 + r .o2 ≤ 1000
-  gas-range = within-greatest 0 1000 _ (ok .o2)
+  pub gas-range : r .header .co2 + r .header .o2 ≤ 1000
+  gas-range = within-greatest 0 1000 _ (ok .header .o2)
 
-  pub water-most : r .water ≤ 20000
-  water-most = within-greatest 0 20000 _ (ok .water)
+  pub water-most : r .header .water ≤ 20000
+  water-most = within-greatest 0 20000 _ (ok .header .water)
 
 -- Lines 1 to 8, each from the ones before it
 pub is-metering : (r : Run) (y : Value) {t v corrected h pressure temperature vapor : ℕ} {dry wet : Value} →
-    t ≡ time (r .points) (r .counts .points) →
-    v ≡ meteredVolume (r .first) (r .last) →
-    corrected ≡ correctedVolume t v (r .segments) (r .counts .segments) →
-    h ≡ meanOrifice (r .points) (r .counts .points) →
-    pressure ≡ meterPressure (r .pb) h →
-    temperature ≡ meterTemperature (r .points) (r .counts .points) →
+    t ≡ time (r .points) (r .header .counts .points) →
+    v ≡ meteredVolume (r .header .first) (r .header .last) →
+    corrected ≡ correctedVolume t v (r .segments) (r .header .counts .segments) →
+    h ≡ meanOrifice (r .points) (r .header .counts .points) →
+    pressure ≡ meterPressure (r .header .pb) h →
+    temperature ≡ meterTemperature (r .points) (r .header .counts .points) →
     dry ≡ dryVolume corrected y pressure temperature →
-    vapor ≡ waterVapor (r .water) →
+    vapor ≡ waterVapor (r .header .water) →
     wet ≡ moisture dry vapor →
     _≡_ {A = Metering} (record { time = t; volume = v; corrected = corrected; pressure = pressure; temperature = temperature; dry = dry; vapor = vapor; moisture = wet }) (metering r y)
 unfolding metering
@@ -94,7 +94,7 @@ is-stack co2 o2 m pb pg points n cp e9 e10 e11 e12 e13 e14 e15 = rw (e15, e14, e
 pub is-sampling : (r : Run) (m : Metering) (s : Stack) (nozzle : Diameters) {area drawn percent grains : Value} {caught : ℤ} →
     area ≡ nozzleArea nozzle →
     drawn ≡ drawnGas (m .dry) (m .vapor) (s .pressure) (s .temperature) →
-    caught ≡ catch (r .weighings) (r .counts .weighings) (r .acetone) →
+    caught ≡ catch (r .weighings) (r .header .counts .weighings) (r .header .acetone) →
     percent ≡ isokinetic drawn (s .velocity) area (m .time) →
     grains ≡ concentration caught (m .dry) →
     _≡_ {A = Sampling} (record { area = area; drawn = drawn; isokinetic = percent; catch = caught; concentration = grains }) (sampling r m s nozzle)
@@ -103,9 +103,9 @@ is-sampling r m s nozzle e16 e17 e19 e18 e20 = rw (e20, e18, e19, e17, e16)
 
 -- All twenty
 pub is-lines : (r : Run) (y cp : Value) (nozzle : Diameters) {m : Metering} {s : Stack} {p : Sampling} {pg : ℤ} →
-    pg ≡ r .pg →
+    pg ≡ r .header .pg →
     m ≡ metering r y →
-    s ≡ stack (r .co2) (r .o2) (m .moisture) (r .pb) pg (r .points) (r .counts .points) cp →
+    s ≡ stack (r .header .co2) (r .header .o2) (m .moisture) (r .header .pb) pg (r .points) (r .header .counts .points) cp →
     p ≡ sampling r m s nozzle →
     _≡_ {A = Lines} (record { metering = m; stack = s; sampling = p }) (lines r y cp nozzle)
 unfolding lines

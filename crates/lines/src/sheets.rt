@@ -45,15 +45,15 @@ pub fn metering(run: Run, y: Value) -> Metering
 {
     let points = run.points;
     let segments = run.segments;
-    let n = run.counts.points as usize;
+    let n = run.header.counts.points as usize;
     let read = meter_points(points, n);
     let t = read.time;
-    let v = metered_volume(run.first, run.last);
-    let corrected = corrected_volume(t, v, segments, run.counts.segments as usize);
-    let pressure = meter_pressure(run.pb as u64, read.orifice);
+    let v = metered_volume(run.header.first, run.header.last);
+    let corrected = corrected_volume(t, v, segments, run.header.counts.segments as usize);
+    let pressure = meter_pressure(run.header.pb as u64, read.orifice);
     let temperature = read.temperature;
     let dry = dry_volume(corrected, y, pressure, temperature);
-    let vapor = water_vapor(run.water as u64);
+    let vapor = water_vapor(run.header.water as u64);
     Metering {
         time: t,
         volume: v,
@@ -111,12 +111,12 @@ pub fn sampling(run: Run, m: Metering, s: Stack, nozzle: Diameters) -> Sampling
     ensures { λ r. ⌜ (r ≡ sampling run m s nozzle) × SamplingOk r ⌝ }
 {
     let weighings = run.weighings;
-    let acetone = run.acetone;
+    let acetone = run.header.acetone;
     let dry = m.dry;
     let velocity = s.velocity;
     let area = nozzle_area(nozzle);
     let drawn = drawn_gas(dry, m.vapor, s.pressure, s.temperature);
-    let caught = catch(weighings, run.counts.weighings as usize, acetone);
+    let caught = catch(weighings, run.header.counts.weighings as usize, acetone);
     Sampling {
         area,
         drawn,
@@ -135,13 +135,13 @@ pub fn lines(run: Run, y: Value, cp: Value, nozzle: Diameters) -> Lines
     let m = metering(run, y);
     let moisture = m.moisture;
     let s = stack(
-        run.co2 as u64,
-        run.o2 as u64,
+        run.header.co2 as u64,
+        run.header.o2 as u64,
         moisture,
-        run.pb as u64,
-        run.pg,
+        run.header.pb as u64,
+        run.header.pg,
         points,
-        run.counts.points as usize,
+        run.header.counts.points as usize,
         cp,
     );
     Lines {

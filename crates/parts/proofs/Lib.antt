@@ -1,6 +1,3 @@
--- The laws of the records, which the layers above cite.
-pub mod Arrays
+-- The laws of the parts, which the layers above cite.
 pub mod InRange
-pub mod Layouts
 pub mod Places
-pub mod SignedFields

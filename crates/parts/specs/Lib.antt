@@ -1,5 +1,3 @@
--- The records of a job file: what they hold, and the trouble met in them.
+-- The parts of a run in a file, points, segments and weighings: what they hold, and the trouble met in them.
 pub mod Values
 pub mod Rows
-pub mod Arrays
-pub mod Ranges

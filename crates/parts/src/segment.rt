@@ -4,21 +4,23 @@ use fields::numbers;
 use fields::trouble::Trouble;
 use readings::points::LeakRate;
 use readings::points::Seconds;
+use readings::runs::SegmentCount;
 use records::Segment;
 ghost use mathlib.Core.Path.{_≡_};
 ghost use Prim.Native.Nat.{_*_, _≤_};
 ghost use lib.ListN.{length};
 ghost use Rattle.fields.specs.declared.trouble.Trouble.the-variants.{Clear};
 ghost use Rattle.fields.specs.Trouble.{checks};
+ghost use Rattle.readings.specs.Ranges.{greatestSegmentCount};
 ghost use Rattle.records.specs.Records.{noSegment, sumTo};
-ghost use Rattle.parts.specs.Arrays.{padded};
-ghost use Rattle.parts.specs.Values.{segment, segmentAt};
+ghost use Rattle.arrays.specs.Arrays.{padded};
+ghost use Rattle.parts.specs.Values.{segmentSize, segment, segmentAt};
 ghost use Rattle.parts.specs.Rows.{segmentRows, segmentTrouble, segmentsTrouble};
 
 pub const SIZE: usize = 4;
 
 pub fn segment(t: &[u8]) -> Segment
-    requires { ⌜ 4 ≤ length (now t) ⌝ }
+    requires { ⌜ segmentSize ≤ length (now t) ⌝ }
     ensures { λ r. ⌜ r ≡ segment (now (t .entry)) ⌝ }
 {
     Segment {
@@ -63,8 +65,8 @@ pub fn troubles(s: &[u8], at: usize, n: usize) -> Trouble
 
 // The seconds of the `n` segments from the front of `t` on.
 pub fn seconds(t: &[u8], n: usize) -> u32
-    requires { ⌜ (n ≤ 255) × (4 * n ≤ length (now t)) ⌝ }
-    ensures { λ r. ⌜ r ≡ sumTo (λ i. segmentAt (now (t .entry)) (4 * i) .seconds) n ⌝ }
+    requires { ⌜ (n ≤ 255) × (segmentSize * n ≤ length (now t)) ⌝ }
+    ensures { λ r. ⌜ r ≡ sumTo (λ i. segmentAt (now (t .entry)) (segmentSize * i) .seconds) n ⌝ }
 {
     let mut total: u32 = 0;
     let mut i = 0;
@@ -76,15 +78,15 @@ pub fn seconds(t: &[u8], n: usize) -> u32
 }
 
 // The `n` segments from the front of `t` on.
-pub fn segments(t: &[u8], n: usize) -> [Segment; 16]
-    requires { ⌜ (n ≤ 16) × (4 * n ≤ length (now t)) ⌝ }
-    ensures { λ r. ⌜ r ≡ padded 16 noSegment (λ i. segmentAt (now (t .entry)) (4 * i)) n ⌝ }
+pub fn segments(t: &[u8], n: usize) -> [Segment; SegmentCount::GREATEST as usize]
+    requires { ⌜ (n ≤ greatestSegmentCount) × (segmentSize * n ≤ length (now t)) ⌝ }
+    ensures { λ r. ⌜ r ≡ padded greatestSegmentCount noSegment (λ i. segmentAt (now (t .entry)) (segmentSize * i)) n ⌝ }
 {
     let none = Segment {
         seconds: 0,
         leak: 0,
     };
-    let mut all = [none; 16];
+    let mut all = [none; SegmentCount::GREATEST as usize];
     let mut i = 0;
     while i < n {
         all[i] = segment(numbers::tail(t, SIZE * i));

@@ -3,6 +3,7 @@
 use fields::numbers;
 use fields::trouble::Trouble;
 use readings::certificates::Unused;
+use readings::runs::WeighingCount;
 use readings::weighings::WeighingKind;
 use readings::weighings::Weight;
 use records::Weighing;
@@ -11,15 +12,16 @@ ghost use Prim.Native.Nat.{_*_, _≤_};
 ghost use lib.ListN.{length};
 ghost use Rattle.fields.specs.declared.trouble.Trouble.the-variants.{Clear};
 ghost use Rattle.fields.specs.Trouble.{checks};
+ghost use Rattle.readings.specs.Ranges.{greatestWeighingCount};
 ghost use Rattle.records.specs.Records.{noWeighing};
-ghost use Rattle.parts.specs.Arrays.{padded};
-ghost use Rattle.parts.specs.Values.{weighing, weighingAt};
+ghost use Rattle.arrays.specs.Arrays.{padded};
+ghost use Rattle.parts.specs.Values.{weighingSize, weighing, weighingAt};
 ghost use Rattle.parts.specs.Rows.{weighingRows, weighingTrouble, weighingsTrouble};
 
 pub const SIZE: usize = 14;
 
 pub fn weighing(t: &[u8]) -> Weighing
-    requires { ⌜ 14 ≤ length (now t) ⌝ }
+    requires { ⌜ weighingSize ≤ length (now t) ⌝ }
     ensures { λ r. ⌜ r ≡ weighing (now (t .entry)) ⌝ }
 {
     Weighing {
@@ -68,9 +70,9 @@ pub fn troubles(s: &[u8], at: usize, n: usize) -> Trouble
 }
 
 // The `n` weighings from the front of `t` on.
-pub fn weighings(t: &[u8], n: usize) -> [Weighing; 8]
-    requires { ⌜ (n ≤ 8) × (14 * n ≤ length (now t)) ⌝ }
-    ensures { λ r. ⌜ r ≡ padded 8 noWeighing (λ i. weighingAt (now (t .entry)) (14 * i)) n ⌝ }
+pub fn weighings(t: &[u8], n: usize) -> [Weighing; WeighingCount::GREATEST as usize]
+    requires { ⌜ (n ≤ greatestWeighingCount) × (weighingSize * n ≤ length (now t)) ⌝ }
+    ensures { λ r. ⌜ r ≡ padded greatestWeighingCount noWeighing (λ i. weighingAt (now (t .entry)) (weighingSize * i)) n ⌝ }
 {
     let none = Weighing {
         kind: 0,
@@ -78,7 +80,7 @@ pub fn weighings(t: &[u8], n: usize) -> [Weighing; 8]
         first: 0,
         second: 0,
     };
-    let mut all = [none; 8];
+    let mut all = [none; WeighingCount::GREATEST as usize];
     let mut i = 0;
     while i < n {
         all[i] = weighing(numbers::tail(t, SIZE * i));

@@ -1,2 +1,3 @@
--- The paper's ranges, one for each kind of reading.
+-- The paper's ranges, one for each kind of reading, and the grids.
 pub mod Ranges
+pub mod Grids

@@ -2,15 +2,21 @@
 
 use crate::range;
 ghost use mathlib.Core.Path.{_≡_};
-ghost use Rattle.readings.specs.Ranges.{certificateKind, letter, serial, factor, coefficient, nozzleDiameter, unused};
+ghost use Rattle.readings.specs.Ranges.{certificateKind, letter, serial, meterFactor, coefficient, nozzleDiameter, unused};
 
-// What a certificate is of: 1 meter, 2 pitot, 3 nozzle.
+// What a certificate is of.
 pub struct CertificateKind;
 
 impl CertificateKind {
-    pub const LEAST: u8 = 1;
+    pub const METER: u8 = 1;
 
-    pub const GREATEST: u8 = 3;
+    pub const PITOT: u8 = 2;
+
+    pub const NOZZLE: u8 = 3;
+
+    pub const LEAST: u8 = CertificateKind::METER;
+
+    pub const GREATEST: u8 = CertificateKind::NOZZLE;
 
     pub fn check(value: u8) -> bool
         ensures { λ r. ⌜ r ≡ certificateKind value ⌝ }
@@ -62,7 +68,7 @@ impl Factor {
     pub const GREATEST: u16 = 11_000;
 
     pub fn check(value: u16) -> bool
-        ensures { λ r. ⌜ r ≡ factor value ⌝ }
+        ensures { λ r. ⌜ r ≡ meterFactor value ⌝ }
     {
         range::holds(value as u64, Factor::LEAST as u64, Factor::GREATEST as u64)
     }

@@ -4,13 +4,17 @@ use crate::range;
 ghost use mathlib.Core.Path.{_≡_};
 ghost use Rattle.readings.specs.Ranges.{weighingKind, weight};
 
-// What was weighed: 1 filter, 2 rinse.
+// What was weighed.
 pub struct WeighingKind;
 
 impl WeighingKind {
-    pub const LEAST: u8 = 1;
+    pub const FILTER: u8 = 1;
 
-    pub const GREATEST: u8 = 2;
+    pub const RINSE: u8 = 2;
+
+    pub const LEAST: u8 = WeighingKind::FILTER;
+
+    pub const GREATEST: u8 = WeighingKind::RINSE;
 
     pub fn check(value: u8) -> bool
         ensures { λ r. ⌜ r ≡ weighingKind value ⌝ }

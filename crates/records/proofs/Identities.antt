@@ -1,18 +1,11 @@
 -- Two identities pass the comparison exactly when they are equal.
 use mathlib.Core.Path.{_≡_, refl}
-use mathlib.Core.Bool.{Bool, true, false, false≢true, _&&_}
+use mathlib.Core.Bool.{true}
 use borrow.Author.Tests.{eqb-true, eq-eqb}
 use lib.Dec.{eqb}
+use Rattle.readings.proofs.Ranges.{both-left, both-right}
 use Rattle.records.specs.declared.Identity.{Identity}
 use Rattle.records.specs.Records.{sameIdentity}
-
-pub both-left : (a b : Bool) → (a && b) ≡ true → a ≡ true
-both-left true b e = refl
-both-left false b e = e
-
-pub both-right : (a b : Bool) → (a && b) ≡ true → b ≡ true
-both-right true b e = e
-both-right false b e = absurd (false≢true e)
 
 pub same-equal : (a b : Identity) → sameIdentity a b ≡ true → a ≡ b
 unfolding sameIdentity

@@ -3,6 +3,7 @@ use Prim.Native.Nat.{ℕ}
 use mathlib.Core.List.{List, [], _∷_, _++_}
 use lib.IntN.{pos, negsuc}
 use lib.ListN.{replicate}
+use Rattle.readings.specs.Ranges.{meter, pitot, nozzle, roundShape, filterKind, rinseKind}
 use Rattle.records.specs.declared.Certificate.{Certificate}
 use Rattle.records.specs.declared.Identity.{Identity}
 use Rattle.records.specs.declared.Point.{Point}
@@ -16,10 +17,10 @@ abc n = record { maker = record { first = 65; second = 66; third = 67 }; serial 
 -- meter ABC 10442: Y 10,000 on day 8990 and 9,800 on day 9020; pitot tube ABC 1: 840; nozzle ABC 2: 250 three times
 abbrev pub workedCertificates : List Certificate
 workedCertificates =
-    record { kind = 1; identity = abc 10442; day = 8990; first = 10000; second = 0; third = 0 }
-    ∷ record { kind = 1; identity = abc 10442; day = 9020; first = 9800; second = 0; third = 0 }
-    ∷ record { kind = 2; identity = abc 1; day = 8990; first = 840; second = 0; third = 0 }
-    ∷ record { kind = 3; identity = abc 2; day = 8990; first = 250; second = 250; third = 250 }
+    record { kind = meter; identity = abc 10442; day = 8990; first = 10000; second = 0; third = 0 }
+    ∷ record { kind = meter; identity = abc 10442; day = 9020; first = 9800; second = 0; third = 0 }
+    ∷ record { kind = pitot; identity = abc 1; day = 8990; first = 840; second = 0; third = 0 }
+    ∷ record { kind = nozzle; identity = abc 2; day = 8990; first = 250; second = 250; third = 250 }
     ∷ []
 
 abbrev pub workedPoint : Point
@@ -29,25 +30,27 @@ workedPoint = record { seconds = 450; head = 500; orifice = 200; stack = pos 200
 abbrev pub workedRun : Run
 workedRun =
     record {
-      number = 7;
-      day = 9000;
-      meter = abc 10442;
-      pitot = abc 1;
-      nozzle = abc 2;
-      pb = 3000;
-      pg = negsuc 67;
-      co2 = 120;
-      o2 = 60;
-      first = 100000;
-      last = 140000;
-      water = 1000;
-      site = record { shape = 1; first = 240; second = 0; next = 480; last = 1920 };
-      acetone = record { residue = 8; blank = 200; rinse = 100; density = 7851 };
-      counts = record { points = 8; segments = 1; weighings = 2 };
+      header = record {
+        number = 7;
+        day = 9000;
+        meter = abc 10442;
+        pitot = abc 1;
+        nozzle = abc 2;
+        pb = 3000;
+        pg = negsuc 67;
+        co2 = 120;
+        o2 = 60;
+        first = 100000;
+        last = 140000;
+        water = 1000;
+        site = record { shape = roundShape; first = 240; second = 0; next = 480; last = 1920 };
+        acetone = record { residue = 8; blank = 200; rinse = 100; density = 7851 };
+        counts = record { points = 8; segments = 1; weighings = 2 };
+      };
       points = replicate 8 workedPoint ++ replicate 56 noPoint;
       segments = record { seconds = 3600; leak = 30 } ∷ replicate 15 noSegment;
       weighings =
-          record { kind = 1; tare = 4000; first = 4912; second = 4910 }
-          ∷ record { kind = 2; tare = 1000000; first = 1000153; second = 1000150 }
+          record { kind = filterKind; tare = 4000; first = 4912; second = 4910 }
+          ∷ record { kind = rinseKind; tare = 1000000; first = 1000153; second = 1000150 }
           ∷ replicate 6 noWeighing;
     }

@@ -1,6 +1,9 @@
 // What a job holds, as structs by value, each field as it stands in the file.
 // Every field is kept, so that a job can be written back from its records. Relies on the kinds of reading for the ranges.
 
+use readings::runs::PointCount;
+use readings::runs::SegmentCount;
+use readings::runs::WeighingCount;
 ghost use mathlib.Core.Path.{_≡_};
 ghost use Rattle.records.specs.Records.{sameIdentity};
 
@@ -92,8 +95,9 @@ pub struct Counts {
     pub weighings: u8,
 }
 
-// A run's field sheet: the barometer Pb and the static pressure Pg, the gas, the meter's first and last reading, and the rest.
-pub struct Run {
+// The head of a run's field sheet: what it is of, the barometer Pb and the static pressure Pg, the gas, the meter's first and
+// last reading, and the rest.
+pub struct RunHeader {
     pub number: u16,
     pub day: u16,
     pub meter: Identity,
@@ -109,7 +113,12 @@ pub struct Run {
     pub site: Site,
     pub acetone: Acetone,
     pub counts: Counts,
-    pub points: [Point; 64],
-    pub segments: [Segment; 16],
-    pub weighings: [Weighing; 8],
+}
+
+// A run: its header, and as many of each list as its counts say.
+pub struct Run {
+    pub header: RunHeader,
+    pub points: [Point; PointCount::GREATEST as usize],
+    pub segments: [Segment; SegmentCount::GREATEST as usize],
+    pub weighings: [Weighing; WeighingCount::GREATEST as usize],
 }

@@ -3,7 +3,7 @@ use Prim.Native.Nat.{_≤_, _-_, suc}
 use mathlib.Core.Path.{_≡_, sym, _∙_, ap}
 use native.Mathlib.Omega.{arith}
 use borrow.Author.Needs.{needs}
-use Rattle.parts.specs.Values.{certificateOf}
+use Rattle.heads.specs.Values.{certificateOf}
 use Rattle.certs.specs.declared.Lookup.the-variants.{Found}
 use Rattle.certs.specs.Choosing.{chosen}
 use Rattle.certs.proofs.Choosing.{lookupAt, Best, best-none, best-replaced, best-kept}

@@ -5,9 +5,10 @@ use borrow.Author.Needs.{needs}
 use lib.ListN.{drop}
 use Rattle.records.specs.declared.Counts.{Counts}
 use Rattle.records.specs.Records.{noPoint, noSegment, noWeighing}
-use Rattle.parts.specs.Values.{point, segment, weighing, header, headerAt, pointPlace, segmentPlace, runAt}
+use Rattle.readings.specs.Ranges.{greatestPointCount, greatestSegmentCount, greatestWeighingCount}
+use Rattle.heads.specs.Values.{runHeaderSize, header, headerAt}
+use Rattle.parts.specs.Values.{pointSize, segmentSize, weighingSize, point, segment, weighing, pointPlace, segmentPlace, runAt}
 use Rattle.parts.proofs.Places.{further, filled, header-left, points-few, segments-few, weighings-few, points-left, segments-left, weighings-left}
-use Rattle.parts.proofs.SignedFields.{read-back}
 use Rattle.parts.proofs.run.Statement.{statement}
 use Rattle.parts.proofs.run.Tie as tie
 
@@ -55,13 +56,13 @@ counts-read c =
     let read = header-of c in
     λ i. (read .header .ensures ∙ ap header (read .before .tail .ensures)) i .counts
 
-points-at : (c : tie.After-tail2) → c .tail2 .result .now ≡ drop (start-of c .args .start + 64) (start-of c .args .s .now)
-points-at c = further (start-of c .args .s .now) (start-of c .args .start) 64 (c .tail2 .ensures) (header-of c .before .tail .ensures)
+points-at : (c : tie.After-tail2) → c .tail2 .result .now ≡ drop (start-of c .args .start + runHeaderSize) (start-of c .args .s .now)
+points-at c = further (start-of c .args .s .now) (start-of c .args .start) runHeaderSize (c .tail2 .ensures) (header-of c .before .tail .ensures)
 
 segments-at :
     (c : tie.After-tail3)
     → c .tail3 .result .now ≡ drop (pointPlace (start-of (c .before) .args .start) (header-of (c .before) .header .result .counts .points)) (start-of (c .before) .args .s .now)
-segments-at c = further (start-of (c .before) .args .s .now) (start-of (c .before) .args .start + 64) _ (c .tail3 .ensures) (points-at (c .before))
+segments-at c = further (start-of (c .before) .args .s .now) (start-of (c .before) .args .start + runHeaderSize) _ (c .tail3 .ensures) (points-at (c .before))
 
 weighings-at :
     (c : tie.After-tail4)
@@ -72,20 +73,20 @@ weighings-at c =
 
 points-requires : tie.Need-points-requires
 points-requires c κs =
-    let points = c .before .before .before .before .before .before .before in
+    let points = c .before .before in
     let within = start-of points .pre in
     (points-few _ _ within (counts-read points), points-left _ _ within (counts-read points) (points-at points))
 
 segments-requires : tie.Need-segments-requires
 segments-requires c κs =
-    let segments = c .before .before .before .before .before .before .before in
+    let segments = c .before .before in
     let within = start-of (segments .before) .pre in
     let n = counts-read (segments .before) in
     (segments-few _ _ within n, segments-left _ _ within n (segments-at segments))
 
 weighings-requires : tie.Need-weighings-requires
 weighings-requires c κs =
-    let weighings = c .before .before .before .before .before .before .before in
+    let weighings = c .before .before in
     let within = start-of (weighings .before .before) .pre in
     let n = counts-read (weighings .before .before) in
     (weighings-few _ _ within n, weighings-left _ _ within n (weighings-at weighings))
@@ -93,10 +94,10 @@ weighings-requires c κs =
 returns : tie.Need-returns
 unfolding runAt
 returns c =
-    let weighings = c .before in
+    let weighings = c in
     let segments = weighings .before in
     let points = segments .before in
-    let at-weighings = points .before .before .before .before .before .before in
+    let at-weighings = points .before in
     let at-segments = at-weighings .before in
     let at-points = at-segments .before in
     let read = header-of at-points in
@@ -108,24 +109,10 @@ returns c =
     let moved3 = weighings-at at-weighings ∙ ap (λ (k : Counts). drop (segmentPlace a k (k .segments)) s) n in
     λ i.
     record {
-      number = h i .number;
-      day = h i .day;
-      meter = h i .meter;
-      pitot = h i .pitot;
-      nozzle = h i .nozzle;
-      pb = h i .pb;
-      pg = read-back (c .struct-told .given .1 .1 .1 .1 .1 .1 .0 .1) (λ j. h j .pg) i;
-      co2 = h i .co2;
-      o2 = h i .o2;
-      first = h i .first;
-      last = h i .last;
-      water = h i .water;
-      site = h i .site;
-      acetone = h i .acetone;
-      counts = h i .counts;
-      points = filled 64 noPoint point 12 s (a + 64) (points .points .ensures) (points-at at-points) (λ j. n j .points) i;
-      segments = filled 16 noSegment segment 4 s (pointPlace a (headerAt s a .counts .points)) (segments .segments .ensures) moved2 (λ j. n j .segments) i;
-      weighings = filled 8 noWeighing weighing 14 s (segmentPlace a (headerAt s a .counts) (headerAt s a .counts .segments)) (weighings .weighings .ensures) moved3 (λ j. n j .weighings) i;
+      header = h i;
+      points = filled greatestPointCount noPoint point pointSize s (a + runHeaderSize) (points .points .ensures) (points-at at-points) (λ j. n j .points) i;
+      segments = filled greatestSegmentCount noSegment segment segmentSize s (pointPlace a (headerAt s a .counts .points)) (segments .segments .ensures) moved2 (λ j. n j .segments) i;
+      weighings = filled greatestWeighingCount noWeighing weighing weighingSize s (segmentPlace a (headerAt s a .counts) (headerAt s a .counts .segments)) (weighings .weighings .ensures) moved3 (λ j. n j .weighings) i;
     }
 
 pub run-spec : {M : Type 1} → statement M

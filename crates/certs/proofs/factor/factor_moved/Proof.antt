@@ -1,21 +1,21 @@
--- `factor_moved` is `factorMoved`; the two factors fit 16 bits, so twenty times their distance fits.
+-- `factor_moved` is `factorMoved`; the two factors fit 16 bits, so twenty times their apart fits.
 use native.Mathlib.Omega.{arith}
 use borrow.Author.Needs.{needs}
-use Rattle.certs.specs.Comparing.{distance}
+use Rattle.certs.specs.Comparing.{apart}
 use Rattle.certs.specs.Factor.{factorMoved}
 use Rattle.certs.proofs.factor.factor_moved.Statement.{statement}
 use Rattle.certs.proofs.factor.factor_moved.Tie as tie
 
-distance-requires : tie.Need-distance-requires
-distance-requires c κs = search needs
+apart-requires : tie.Need-apart-requires
+apart-requires c κs = search needs
 
 mul-t6 : tie.Need-mul-t6
-unfolding distance
-mul-t6 c = omega (arith, c .distance .ensures)
+unfolding apart
+mul-t6 c = omega (arith, c .apart .ensures)
 
 returns : tie.Need-returns
 unfolding factorMoved
-returns c = rw (c .distance .ensures)
+returns c = rw (c .apart .ensures)
 
 pub factor-moved-spec : {M : Type 1} → statement M
-factor-moved-spec = tie.close (tie.spec distance-requires mul-t6 returns)
+factor-moved-spec = tie.close (tie.spec apart-requires mul-t6 returns)

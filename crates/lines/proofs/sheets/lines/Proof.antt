@@ -12,13 +12,13 @@ metering-requires : tie.Need-metering-requires
 metering-requires c κs = search needs
 
 cast-stack : tie.Need-cast-stack
-cast-stack c = search needs
+cast-stack c = omega (arith, gas-range _ (c .before .before .before .pre .run))
 
 cast-stack-2 : tie.Need-cast-stack-2
 cast-stack-2 c = omega (arith, gas-range _ (c .before .before .before .before .pre .run))
 
 cast-stack-3 : tie.Need-cast-stack-3
-cast-stack-3 c = search needs
+cast-stack-3 c = omega (arith, pb-range _ (c .before .before .before .before .before .pre .run) .1)
 
 cast-stack-4 : tie.Need-cast-stack-4
 cast-stack-4 c = omega (arith, traverse-ok _ (c .before .before .before .before .before .before .pre .run) .few)
@@ -31,7 +31,7 @@ stack-requires c κs =
       (gas-range _ ok, pb .0, pb .1),
       (
         c .before .before .before .before .before .metering .ensures .1 .moisture,
-        (ap staticPressure (pressure-bits _ (ok .pg)) ∙ ok .pg, (traverse-ok _ ok, start .pre .coefficient)),
+        (ap staticPressure (pressure-bits _ (ok .header .pg)) ∙ ok .header .pg, (traverse-ok _ ok, start .pre .coefficient)),
       ),
     )
 
@@ -44,7 +44,7 @@ returns c =
     let m = c .before .before .before .before .before .before .before .metering .ensures in
     let s = c .before .stack .ensures in
     let p = c .sampling .ensures in (
-      is-lines _ _ _ _ (pressure-bits _ (start .pre .run .pg)) (m .0) (s .0) (p .0),
+      is-lines _ _ _ _ (pressure-bits _ (start .pre .run .header .pg)) (m .0) (s .0) (p .0),
       record { metering = m .1; stack = s .1; sampling = p .1 },
     )
 

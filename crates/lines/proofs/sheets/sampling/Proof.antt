@@ -20,7 +20,7 @@ cast-catch : tie.Need-cast-catch
 cast-catch c = omega (arith, weighings-ok _ (c .before .before .before .before .before .pre .0) .few)
 
 catch-requires : tie.Need-catch-requires
-catch-requires c κs = (weighings-ok _ (c .before .before .before .before .before .pre .0), c .before .before .before .before .before .pre .0 .acetone)
+catch-requires c κs = (weighings-ok _ (c .before .before .before .before .before .pre .0), c .before .before .before .before .before .pre .0 .header .acetone)
 
 isokinetic-requires : tie.Need-isokinetic-requires
 isokinetic-requires c κs = search needs

@@ -4,22 +4,23 @@ use mathlib.Core.Path.{_≡_, _∙_, ap}
 use native.Mathlib.Nat.{le-antisymm}
 use native.Mathlib.Omega.{arith}
 use borrow.Author.Needs.{needs}
+use Rattle.readings.specs.Ranges.{greatestSegmentCount}
 use Rattle.records.specs.Records.{noSegment}
-use Rattle.parts.specs.Arrays.{padded}
-use Rattle.parts.specs.Values.{segment, segmentAt}
-use Rattle.parts.proofs.Arrays.{pad-none, pad-more}
+use Rattle.arrays.specs.Arrays.{padded}
+use Rattle.parts.specs.Values.{segmentSize, segment, segmentAt}
+use Rattle.arrays.proofs.Arrays.{pad-none, pad-more}
 use Rattle.parts.proofs.Places.{enough}
 use Rattle.parts.proofs.segment.segments.Statement.{statement}
 use Rattle.parts.proofs.segment.segments.Tie as tie
 
 abbrev Inv-loop : tie.InvT-loop
-Inv-loop t n all₀ i₀ all i = (i ≤ n) × (all ≡ padded 16 noSegment (λ k. segmentAt t (4 * k)) i)
+Inv-loop t n all₀ i₀ all i = (i ≤ n) × (all ≡ padded greatestSegmentCount noSegment (λ k. segmentAt t (segmentSize * k)) i)
 
 abbrev μ-loop : tie.MeasureT-loop
 μ-loop t n all₀ i₀ all i = n - i
 
 loop-holds : tie.Need-loop-holds Inv-loop μ-loop
-loop-holds c = (search needs, pad-none 16 noSegment _)
+loop-holds c = (search needs, pad-none greatestSegmentCount noSegment _)
 
 mul-tail : tie.Need-mul-tail Inv-loop μ-loop
 mul-tail c = search needs
@@ -28,7 +29,7 @@ tail-requires : tie.Need-tail-requires Inv-loop μ-loop
 tail-requires c κs = search needs
 
 segment-requires : tie.Need-segment-requires Inv-loop μ-loop
-segment-requires c κs = enough _ (4 * c .before .before .loop .i) 4 (c .tail .ensures) (omega (arith, c .before .loop-test .taken, c .before .before .before .before .pre .1))
+segment-requires c κs = enough _ (segmentSize * c .before .before .loop .i) segmentSize (c .tail .ensures) (omega (arith, c .before .loop-test .taken, c .before .before .before .before .pre .1))
 
 mul-all : tie.Need-mul-all Inv-loop μ-loop
 mul-all c = search needs
@@ -45,12 +46,12 @@ loop-less c = search needs
 loop-again : tie.Need-loop-again Inv-loop μ-loop
 loop-again c =
     let turn = c .before .before .before .loop .inv in
-    (search needs, pad-more 16 noSegment _ _ (turn .1) (c .segment .ensures ∙ ap segment (c .before .tail .ensures)))
+    (search needs, pad-more greatestSegmentCount noSegment _ _ (turn .1) (c .segment .ensures ∙ ap segment (c .before .tail .ensures)))
 
 returns : tie.Need-returns Inv-loop μ-loop
 returns c =
     let passed = c .before .loop .inv in
-    passed .1 ∙ ap (padded 16 noSegment _) (le-antisymm (passed .0) (c .loop-test .left))
+    passed .1 ∙ ap (padded greatestSegmentCount noSegment _) (le-antisymm (passed .0) (c .loop-test .left))
 
 pub segments-spec : {M : Type 1} → statement M
 segments-spec =

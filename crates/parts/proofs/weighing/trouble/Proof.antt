@@ -9,9 +9,9 @@ use lib.ListN.{length}
 use Rattle.fields.specs.declared.trouble.Trouble.the-variants.{Clear}
 use Rattle.fields.specs.Numbers.{byteAt}
 use Rattle.fields.specs.Trouble.{checks}
-use Rattle.parts.specs.Values.{weighing}
+use Rattle.parts.specs.Values.{weighingSize, weighing}
 use Rattle.parts.specs.Rows.{weighingRows}
-use Rattle.parts.proofs.Layouts.{short-at, whole-at, reach-at}
+use Rattle.fields.proofs.RecordTrouble.{short-at, whole-at, reach-at}
 use Rattle.parts.proofs.weighing.trouble.Statement.{statement}
 use Rattle.parts.proofs.weighing.trouble.Tie as tie
 
@@ -19,7 +19,7 @@ tail-requires : tie.Need-tail-requires
 tail-requires c κs = search needs
 
 returns : tie.Need-returns
-returns c = short-at _ _ 14 _ (c .before .tail .ensures) (c .if1 .taken)
+returns c = short-at _ _ weighingSize _ (c .before .tail .ensures) (c .if1 .taken)
 
 weighing-requires : tie.Need-weighing-requires
 weighing-requires c κs = search needs
@@ -36,14 +36,14 @@ from-requires c κs =
     let rest = whole .before .tail .ensures in
     let start = whole .before .before .before in
     let long : length (start .args .s .now) < 2 ^ 63 = omega (arith, start .good .0 .1) in
-    reach-at _ _ 14 _ rest (whole .if1 .left) long (lit≤ tt) (lit≤ tt) refl
+    reach-at _ _ weighingSize _ rest (whole .if1 .left) long (lit≤ tt) (lit≤ tt) refl
     (c .rows .ensures ∙ (ap₂ (λ w b. checks Clear (weighingRows w b)) (c .before .before .weighing .ensures ∙ ap weighing rest) (c .before .byte .ensures ∙ ap (λ (t : List ℕ). byteAt t 1) rest)))
 
 returns-2 : tie.Need-returns-2
 returns-2 c =
     let whole = c .before .before .before .before in
     let rest = whole .before .tail .ensures in
-    whole-at _ _ 14 _ rest (whole .if1 .left)
+    whole-at _ _ weighingSize _ rest (whole .if1 .left)
     (c .before .rows .ensures ∙ (ap₂ (λ w b. checks Clear (weighingRows w b)) (c .before .before .before .weighing .ensures ∙ ap weighing rest) (c .before .before .byte .ensures ∙ ap (λ (t : List ℕ). byteAt t 1) rest)))
     (c .from .ensures)
 

@@ -4,22 +4,23 @@ use mathlib.Core.Path.{_≡_, _∙_, ap}
 use native.Mathlib.Nat.{le-antisymm}
 use native.Mathlib.Omega.{arith}
 use borrow.Author.Needs.{needs}
+use Rattle.readings.specs.Ranges.{greatestWeighingCount}
 use Rattle.records.specs.Records.{noWeighing}
-use Rattle.parts.specs.Arrays.{padded}
-use Rattle.parts.specs.Values.{weighing, weighingAt}
-use Rattle.parts.proofs.Arrays.{pad-none, pad-more}
+use Rattle.arrays.specs.Arrays.{padded}
+use Rattle.parts.specs.Values.{weighingSize, weighing, weighingAt}
+use Rattle.arrays.proofs.Arrays.{pad-none, pad-more}
 use Rattle.parts.proofs.Places.{enough}
 use Rattle.parts.proofs.weighing.weighings.Statement.{statement}
 use Rattle.parts.proofs.weighing.weighings.Tie as tie
 
 abbrev Inv-loop : tie.InvT-loop
-Inv-loop t n all₀ i₀ all i = (i ≤ n) × (all ≡ padded 8 noWeighing (λ k. weighingAt t (14 * k)) i)
+Inv-loop t n all₀ i₀ all i = (i ≤ n) × (all ≡ padded greatestWeighingCount noWeighing (λ k. weighingAt t (weighingSize * k)) i)
 
 abbrev μ-loop : tie.MeasureT-loop
 μ-loop t n all₀ i₀ all i = n - i
 
 loop-holds : tie.Need-loop-holds Inv-loop μ-loop
-loop-holds c = (search needs, pad-none 8 noWeighing _)
+loop-holds c = (search needs, pad-none greatestWeighingCount noWeighing _)
 
 mul-tail : tie.Need-mul-tail Inv-loop μ-loop
 mul-tail c = search needs
@@ -28,7 +29,7 @@ tail-requires : tie.Need-tail-requires Inv-loop μ-loop
 tail-requires c κs = search needs
 
 weighing-requires : tie.Need-weighing-requires Inv-loop μ-loop
-weighing-requires c κs = enough _ (14 * c .before .before .loop .i) 14 (c .tail .ensures) (omega (arith, c .before .loop-test .taken, c .before .before .before .before .pre .1))
+weighing-requires c κs = enough _ (weighingSize * c .before .before .loop .i) weighingSize (c .tail .ensures) (omega (arith, c .before .loop-test .taken, c .before .before .before .before .pre .1))
 
 mul-all : tie.Need-mul-all Inv-loop μ-loop
 mul-all c = search needs
@@ -45,12 +46,12 @@ loop-less c = search needs
 loop-again : tie.Need-loop-again Inv-loop μ-loop
 loop-again c =
     let turn = c .before .before .before .loop .inv in
-    (search needs, pad-more 8 noWeighing _ _ (turn .1) (c .weighing .ensures ∙ ap weighing (c .before .tail .ensures)))
+    (search needs, pad-more greatestWeighingCount noWeighing _ _ (turn .1) (c .weighing .ensures ∙ ap weighing (c .before .tail .ensures)))
 
 returns : tie.Need-returns Inv-loop μ-loop
 returns c =
     let passed = c .before .loop .inv in
-    passed .1 ∙ ap (padded 8 noWeighing _) (le-antisymm (passed .0) (c .loop-test .left))
+    passed .1 ∙ ap (padded greatestWeighingCount noWeighing _) (le-antisymm (passed .0) (c .loop-test .left))
 
 pub weighings-spec : {M : Type 1} → statement M
 weighings-spec =

@@ -2,7 +2,7 @@
 use Prim.Native.Nat.{_+_, _^_, _<_}
 use mathlib.Core.Path.{_≡_, ap}
 use native.Mathlib.Omega.{arith}
-use Rattle.fields.specs.Trouble.{placeOf}
+use Rattle.fields.specs.Trouble.{troublePlace}
 use borrow.Author.Needs.{needs}
 use Rattle.fields.proofs.trouble.Trouble.from.Statement.{statement}
 use Rattle.fields.proofs.trouble.Trouble.from.Tie as tie
@@ -13,8 +13,8 @@ enum-known-self c = search needs
 add-t6 : tie.Need-add-t6
 add-t6 c =
     let start = c .before .before .before in
-    let place : placeOf (start .args .self) ≡ c .before .self .given .0 .1 .0 = ap placeOf (c .before .self .given .1) in
-    let fits : start .args .start + placeOf (start .args .self) < 2 ^ 64 = start .pre in
+    let place : troublePlace (start .args .self) ≡ c .before .self .given .0 .1 .0 = ap troublePlace (c .before .self .given .1) in
+    let fits : start .args .start + troublePlace (start .args .self) < 2 ^ 64 = start .pre in
     omega arith
 
 enum-told : tie.Need-enum-told

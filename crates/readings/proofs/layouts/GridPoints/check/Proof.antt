@@ -1,14 +1,16 @@
--- The listed numbers, one by one.
-use mathlib.Core.List.{[], _∷_}
-use Rattle.readings.proofs.Ranges.{among-one-of, not-among-one-of}
+-- A number of points is a grid's exactly when it is the next grid's.
+use mathlib.Core.Path.{_∙_, ap}
+use borrow.Author.Needs.{needs}
+use lib.Dec.{eqb}
+use Rattle.readings.proofs.Grids.{grid-exactly}
 use Rattle.readings.proofs.layouts.GridPoints.check.Statement.{statement}
 use Rattle.readings.proofs.layouts.GridPoints.check.Tie as tie
 
-returns : tie.Need-returns
-returns c = among-one-of 9 (12 ∷ 16 ∷ 20 ∷ 25 ∷ 30 ∷ 36 ∷ 42 ∷ 49 ∷ []) _ (c .match .keys1)
+next-requires : tie.Need-next-requires
+next-requires c κs = search needs
 
-returns-2 : tie.Need-returns-2
-returns-2 c = not-among-one-of 9 (12 ∷ 16 ∷ 20 ∷ 25 ∷ 30 ∷ 36 ∷ 42 ∷ 49 ∷ []) _ (c .match .rest .1)
+returns : tie.Need-returns
+returns c = ap (λ m. eqb (c .before .args .value) m) (c .next .ensures) ∙ grid-exactly (c .before .args .value)
 
 pub check-spec : {M : Type 1} → statement M
-check-spec = tie.close (tie.spec returns returns-2)
+check-spec = tie.close (tie.spec next-requires returns)

@@ -1,0 +1,2 @@
+-- The laws of arrays, which the layers above cite.
+pub mod Arrays

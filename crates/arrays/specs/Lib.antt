@@ -1,0 +1,2 @@
+-- An array filled from the front.
+pub mod Arrays

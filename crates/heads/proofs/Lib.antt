@@ -1,0 +1,2 @@
+-- The laws of the records, which the layers above cite.
+pub mod InRange

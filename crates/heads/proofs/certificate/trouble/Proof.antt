@@ -1,0 +1,48 @@
+-- Incomplete, or row by row.
+use Prim.Native.Nat.{_^_, _<_}
+use mathlib.Core.Path.{refl, _∙_, ap}
+use native.Mathlib.Omega.{arith}
+use borrow.Author.Needs.{needs}
+use lib.Dec.{lit≤}
+use lib.ListN.{length}
+use Rattle.fields.specs.declared.trouble.Trouble.the-variants.{Clear}
+use Rattle.fields.specs.Trouble.{checks}
+use Rattle.heads.specs.Values.{certificateSize, certificate}
+use Rattle.heads.specs.Rows.{certificateRows}
+use Rattle.fields.proofs.RecordTrouble.{short-at, whole-at, reach-at}
+use Rattle.heads.proofs.certificate.trouble.Statement.{statement}
+use Rattle.heads.proofs.certificate.trouble.Tie as tie
+
+tail-requires : tie.Need-tail-requires
+tail-requires c κs = search needs
+
+returns : tie.Need-returns
+returns c = short-at _ _ certificateSize _ (c .before .tail .ensures) (c .if1 .taken)
+
+certificate-requires : tie.Need-certificate-requires
+certificate-requires c κs = search needs
+
+rows-requires : tie.Need-rows-requires
+rows-requires c κs = search needs
+
+from-requires : tie.Need-from-requires
+from-requires c κs =
+    let whole = c .before .before in
+    let rest = whole .before .tail .ensures in
+    let start = whole .before .before .before in
+    let long : length (start .args .s .now) < 2 ^ 63 = omega (arith, start .good .0 .1) in
+    reach-at _ _ certificateSize _ rest (whole .if1 .left) long (lit≤ tt) (lit≤ tt) refl
+    (c .rows .ensures ∙ ap (λ r. checks Clear (certificateRows r)) (c .before .certificate .ensures ∙ ap certificate rest))
+
+returns-2 : tie.Need-returns-2
+returns-2 c =
+    let whole = c .before .before .before in
+    let rest = whole .before .tail .ensures in
+    whole-at _ _ certificateSize _ rest (whole .if1 .left)
+    (c .before .rows .ensures ∙ ap (λ r. checks Clear (certificateRows r)) (c .before .before .certificate .ensures ∙ ap certificate rest))
+    (c .from .ensures)
+
+pub trouble-spec : {M : Type 1} → statement M
+trouble-spec =
+    tie.close
+    (tie.spec tail-requires returns certificate-requires rows-requires from-requires returns-2)

@@ -1,0 +1,47 @@
+-- Each field by its own read.
+use borrow.Author.Needs.{needs}
+use Rattle.heads.proofs.identity.identity.Statement.{statement}
+use Rattle.heads.proofs.identity.identity.Tie as tie
+
+byte-requires : tie.Need-byte-requires
+byte-requires c κs = search needs
+
+add-byte : tie.Need-add-byte
+add-byte c = search needs
+
+byte-requires-2 : tie.Need-byte-requires-2
+byte-requires-2 c κs = search needs
+
+add-byte-2 : tie.Need-add-byte-2
+add-byte-2 c = search needs
+
+byte-requires-3 : tie.Need-byte-requires-3
+byte-requires-3 c κs = search needs
+
+add-u32-at : tie.Need-add-u32-at
+add-u32-at c = search needs
+
+u32-at-requires : tie.Need-u32-at-requires
+u32-at-requires c κs = search needs
+
+returns : tie.Need-returns
+returns c =
+    let letters = c .before .before .before in
+    λ i.
+    record {
+      maker = record { first = letters .byte .ensures i; second = c .before .before .byte2 .ensures i; third = c .before .byte3 .ensures i };
+      serial = c .u32-at .ensures i;
+    }
+
+pub identity-spec : {M : Type 1} → statement M
+identity-spec =
+    tie.close
+    (tie.spec
+    byte-requires
+    add-byte
+    byte-requires-2
+    add-byte-2
+    byte-requires-3
+    add-u32-at
+    u32-at-requires
+    returns)

@@ -1,0 +1,10 @@
+// The records of a job file that name things: identities, certificates and the headers of runs; what each holds, and the
+// trouble met in it. A record's trouble is looked at in order of place, so that the first one met is the answer. Relies on
+// the numbers and the trouble of fields and on the kinds of reading.
+
+pub mod certificate;
+pub mod header;
+pub mod identity;
+
+// The file's own header, behind which the certificates stand.
+pub const FILE_HEADER_SIZE: usize = 9;
