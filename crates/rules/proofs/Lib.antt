@@ -1,6 +1,5 @@
 -- The laws of the rules, which the layers above cite.
 pub mod Products
-pub mod Grids
 pub mod Parts
 pub mod Table
 pub mod Starred

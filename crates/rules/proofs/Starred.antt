@@ -4,7 +4,7 @@ use mathlib.Core.Path.{_≡_, refl}
 use mathlib.Core.Bool.{Bool}
 use mathlib.Core.List.{List, [], _∷_, _++_, map}
 use lib.Dec.{ltb}
-use Rattle.certs.specs.Comparing.{holds, distance}
+use Rattle.certs.specs.Comparing.{holds, apart}
 use Rattle.certs.specs.Factor.{factorMoved, factor, factorOf}
 use Rattle.rules.specs.Grounds.{broken}
 use Rattle.rules.specs.Rules.{moved, lineAgainst, grounds, groundOf, leastIsokinetic, greatestIsokinetic}
@@ -19,7 +19,7 @@ factor-stands s note y part b before after is-before is-after first second = (
 )
 
 pub starred-factors : Each FactorStands starredFactors
-unfolding starredFactors holds factorMoved distance factor
+unfolding starredFactors holds factorMoved apart factor
 starred-factors = (factor-stands _ refl refl, (factor-stands _ refl refl, (factor-stands _ refl refl, tt)))
 
 -- a starred line 18 stands where the line alone gives the faults

@@ -6,7 +6,8 @@ use mathlib.Core.List.{List, [], _∷_}
 use lib.Dec.{leb, ltb, eqb}
 use lib.IntN.{ℤ, pos}
 use lib.ListN.{getD}
-use Rattle.readings.specs.Ranges.{oneOf}
+use Rattle.readings.specs.Ranges.{greatestAboveFirst, roundShape, greatestTotalSeconds}
+use Rattle.readings.specs.Grids.{oneOf, nextGrid}
 use Rattle.records.specs.declared.Site.{Site}
 use Rattle.records.specs.declared.Counts.{Counts}
 use Rattle.lines.specs.declared.Value.{Value}
@@ -16,7 +17,7 @@ use Rattle.certs.specs.declared.Lookup.{Lookup}
 use Rattle.certs.specs.declared.Lookup.the-variants.{Found, Nothing}
 use Rattle.certs.specs.declared.comparison.Way.{Way}
 use Rattle.certs.specs.declared.comparison.Way.the-variants.{Below, Above, Same, Differs}
-use Rattle.certs.specs.Comparing.{compare, distance}
+use Rattle.certs.specs.Comparing.{compare, apart}
 use Rattle.certs.specs.Factor.{factorMoved}
 use Rattle.rules.specs.declared.grounds.Ground.{Ground}
 use Rattle.rules.specs.declared.grounds.Ground.the-variants.{Silent, NoCertificate, Compared, Either, SignedBelow}
@@ -51,7 +52,7 @@ uneven (Found n) = Compared (compare (spread (n .first) (n .second) (n .third)) 
 
 -- a site is round, or rectangular
 abbrev pub isRound : Site → Bool
-isRound s = eqb (s .shape) 1
+isRound s = eqb (s .shape) roundShape
 
 -- a length as a fraction, 0.1 in
 abbrev pub fraction : ℕ → ℕ → Length
@@ -132,18 +133,9 @@ minimumPoints s =
     cond (undisturbed s) (cond (wide s) leastWide (cond (isRound s) leastRound leastRectangular))
     (cond (isRound s) leastDisturbedRound leastDisturbedRectangular)
 
--- the numbers of points of a rectangular stack
-abbrev pub gridNumbers : List ℕ
-gridNumbers = 9 ∷ 12 ∷ 16 ∷ 20 ∷ 25 ∷ 30 ∷ 36 ∷ 42 ∷ 49 ∷ []
-
--- the first of them that is not below n, or 49 if none is higher
-unfoldable pub nextGrid : List ℕ → ℕ → ℕ
-nextGrid [] n = 49
-nextGrid (g ∷ gs) n = cond (leb n g) g (nextGrid gs n)
-
 -- the allowed number of points from n on: multiples of 4 round, the grids rectangular
 unfoldable pub nextAllowed : ℕ → ℕ → ℕ
-nextAllowed shape n = cond (eqb shape 1) ((n + 3) / 4 * 4) (nextGrid gridNumbers n)
+nextAllowed shape n = cond (eqb shape roundShape) ((n + 3) / 4 * 4) (nextGrid n)
 
 -- 9: wrong number of points, below the least or not allowed for the shape
 abbrev pub wrongPoints : ℕ → ℕ → ℕ → Ground
@@ -185,7 +177,7 @@ greatestDifference = 5
 
 -- 17: a weighing whose final weights differ by over that
 unfoldable pub unsteady : Part → Ground
-unsteady (OneWeighing w) = Compared (compare (distance (w .first) (w .second)) Above greatestDifference)
+unsteady (OneWeighing w) = Compared (compare (apart (w .first) (w .second)) Above greatestDifference)
 unsteady Whole = Silent
 unsteady (OnePoint p) = Silent
 unsteady (OneSegment s) = Silent
@@ -236,8 +228,8 @@ groundOf part b rule = getD (grounds part b) (rule - 1) Silent
 pub record Judgeable (b : Beside) (rule : ℕ) : Type 0 where
   pub first : 1 ≤ rule
   pub last : rule ≤ ruleCount
-  pub time : b .lines .metering .time ≤ 36000
-  pub volume : b .lines .metering .volume ≤ 999999
+  pub time : b .lines .metering .time ≤ greatestTotalSeconds
+  pub volume : b .lines .metering .volume ≤ greatestAboveFirst
 
 -- of how many places a rule speaks: points, segments or weighings, and otherwise the whole run
 unfoldable pub placesOf : Counts → ℕ → ℕ

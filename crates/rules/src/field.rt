@@ -7,6 +7,7 @@ use certs::comparison::Way;
 use lines::volumes::allowance;
 ghost use mathlib.Core.Path.{_≡_};
 ghost use Prim.Native.Nat.{_≤_};
+ghost use Rattle.readings.specs.Ranges.{greatestAboveFirst, greatestTotalSeconds};
 ghost use Rattle.rules.specs.Rules.{short, leaking};
 
 // The least time at a point, seconds.
@@ -28,7 +29,7 @@ pub fn short(part: Part) -> Ground
 
 // Rule 11: a segment's leak above the allowance, of a run of that time T and metered volume V.
 pub fn leaking(time: u64, volume: u64, part: Part) -> Ground
-    requires { ⌜ (time ≤ 36000) × (volume ≤ 999999) ⌝ }
+    requires { ⌜ (time ≤ greatestTotalSeconds) × (volume ≤ greatestAboveFirst) ⌝ }
     ensures { λ r. ⌜ r ≡ leaking time volume part ⌝ }
 {
     let Part::OneSegment(segment) = part else {

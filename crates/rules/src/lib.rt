@@ -132,7 +132,8 @@ pub fn class(rule: u8) -> u8
     ensures { λ r. ⌜ r ≡ classOf rule ⌝ }
 {
     match rule {
-        5 | 11 => NOTE,
+        5 => NOTE,
+        11 => NOTE,
         _ => FAULT,
     }
 }

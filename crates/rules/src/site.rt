@@ -4,10 +4,11 @@
 use crate::grounds::Ground;
 use certs::comparison::Comparison;
 use certs::comparison::Way;
+use readings::layouts::GridPoints;
 use readings::runs::Shape;
 use records::Site;
 ghost use mathlib.Core.Path.{_≡_};
-ghost use Rattle.rules.specs.Rules.{diameter, halfDiameter, narrow, disturbed, undisturbed, wide, minimumPoints, gridNumbers, nextGrid, nextAllowed, wrongPoints, IsLength};
+ghost use Rattle.rules.specs.Rules.{diameter, halfDiameter, narrow, disturbed, undisturbed, wide, minimumPoints, nextAllowed, wrongPoints, IsLength};
 
 // The least diameter, and the one above which more points are needed, 0.1 in.
 const LEAST_DIAMETER: u64 = 120;
@@ -152,24 +153,6 @@ pub fn minimum_points(site: Site) -> u64
     }
 }
 
-// The numbers of points of a rectangular stack, the largest last.
-const GRIDS: [u64; 9] = [9, 12, 16, 20, 25, 30, 36, 42, 49];
-
-// The first of them that is not below n, or the largest.
-fn next_grid(n: u64) -> u64
-    ensures { λ r. ⌜ r ≡ nextGrid gridNumbers n ⌝ }
-{
-    let mut i = 0;
-    while i < 9 {
-        let grid = GRIDS[i];
-        if n <= grid {
-            return grid;
-        }
-        i += 1;
-    }
-    GRIDS[8]
-}
-
 // The allowed number of points from n on: of a round stack the next multiple of 4, of a rectangular one the next grid.
 pub fn next_allowed(shape: u8, n: u8) -> u64
     ensures { λ r. ⌜ r ≡ nextAllowed shape n ⌝ }
@@ -177,7 +160,7 @@ pub fn next_allowed(shape: u8, n: u8) -> u64
     if shape == Shape::ROUND {
         return (n as u64 + 3) / 4 * 4;
     }
-    next_grid(n as u64)
+    GridPoints::next(n as u64)
 }
 
 // Rule 9: fewer points than the least number, or a number that is not allowed for the shape.

@@ -19,7 +19,7 @@ pub fn unsteady(part: Part) -> Ground
         return Ground::Silent;
     };
     Ground::Compared(Comparison {
-        left: comparison::distance(weighing.first as u64, weighing.second as u64),
+        left: comparison::apart(weighing.first as u64, weighing.second as u64),
         way: Way::Above,
         right: GREATEST_DIFFERENCE,
     })

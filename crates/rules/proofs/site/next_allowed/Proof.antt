@@ -15,12 +15,12 @@ returns : tie.Need-returns
 unfolding nextAllowed
 returns c = rw (eq-eqb _ _ (c .if1 .taken))
 
-next-grid-requires : tie.Need-next-grid-requires
-next-grid-requires c κs = search needs
+next-requires : tie.Need-next-requires
+next-requires c κs = search needs
 
 returns-2 : tie.Need-returns-2
 unfolding nextAllowed
-returns-2 c = rw (ne-eqb _ _ (c .before .if1 .left)) (c .next-grid .ensures)
+returns-2 c = rw (ne-eqb _ _ (c .before .if1 .left)) (c .next .ensures)
 
 pub next-allowed-spec : {M : Type 1} → statement M
-next-allowed-spec = tie.close (tie.spec add-result mul-result returns next-grid-requires returns-2)
+next-allowed-spec = tie.close (tie.spec add-result mul-result returns next-requires returns-2)

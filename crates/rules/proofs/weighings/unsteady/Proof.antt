@@ -11,20 +11,20 @@ enum-known-part c = search needs
 returns : tie.Need-returns
 returns c = no-weighing _ (c .match .keys2)
 
-cast-distance : tie.Need-cast-distance
-cast-distance c = search needs
+cast-apart : tie.Need-cast-apart
+cast-apart c = search needs
 
-cast-distance-2 : tie.Need-cast-distance-2
-cast-distance-2 c = search needs
+cast-apart-2 : tie.Need-cast-apart-2
+cast-apart-2 c = search needs
 
-distance-requires : tie.Need-distance-requires
-distance-requires c κs = search needs
+apart-requires : tie.Need-apart-requires
+apart-requires c κs = search needs
 
 returns-2 : tie.Need-returns-2
 unfolding unsteady
-returns-2 c = rw (c .before .before .before .before .part .given .1, c .distance .ensures)
+returns-2 c = rw (c .before .before .before .before .part .given .1, c .apart .ensures)
 
 pub unsteady-spec : {M : Type 1} → statement M
 unsteady-spec =
     tie.close
-    (tie.spec enum-known-part returns cast-distance cast-distance-2 distance-requires returns-2)
+    (tie.spec enum-known-part returns cast-apart cast-apart-2 apart-requires returns-2)
