@@ -6,6 +6,7 @@ use mathlib.Core.List.{List, [], _∷_, _++_}
 use mathlib.Core.Logic.{_⊎_}
 use lib.Dec.{eqb}
 use lib.ListN.{length, getD, replicate}
+use Rattle.readings.specs.Ranges.{filterKind, rinseKind}
 use Rattle.records.specs.declared.Weighing.{Weighing}
 use Rattle.records.specs.declared.Run.{Run}
 use Rattle.records.specs.Records.{noWeighing, pointOf, segmentOf, weighingOf, sumTo}
@@ -28,13 +29,6 @@ partOf r rule i =
     cond (eqb rule 10) (OnePoint (pointOf r i))
     (cond (eqb rule 11) (OneSegment (segmentOf r i)) (cond (eqb rule 17) (OneWeighing (weighingOf r i)) Whole))
 
--- what was weighed
-abbrev pub filterKind : ℕ
-filterKind = 1
-
-abbrev pub rinseKind : ℕ
-rinseKind = 2
-
 -- one where a weighing is of that kind, and otherwise nothing
 abbrev pub oneOfKind : ℕ → Weighing → ℕ
 oneOfKind kind w = cond (eqb (w .kind) kind) 1 0
@@ -49,11 +43,11 @@ besideOf r ch l =
     record {
       chosen = ch;
       lines = l;
-      site = r .site;
-      counts = r .counts;
-      filters = ofKind filterKind (r .weighings) (r .counts .weighings);
-      rinses = ofKind rinseKind (r .weighings) (r .counts .weighings);
-      least = minimumPoints (r .site);
+      site = r .header .site;
+      counts = r .header .counts;
+      filters = ofKind filterKind (r .weighings) (r .header .counts .weighings);
+      rinses = ofKind rinseKind (r .weighings) (r .header .counts .weighings);
+      least = minimumPoints (r .header .site);
     }
 
 -- a rule is broken at its place i
@@ -77,7 +71,7 @@ findingsTo isBroken places (suc k) =
 
 -- The findings of a run
 unfoldable pub findings : Run → Chosen → Lines → List Finding
-findings r ch l = findingsTo (brokenAt r ch l) (placesOf (r .counts)) ruleCount
+findings r ch l = findingsTo (brokenAt r ch l) (placesOf (r .header .counts)) ruleCount
 
 -- no finding is a fault
 unfoldable pub accepted : List Finding → Bool
@@ -115,7 +109,7 @@ pub record Breaks (r : Run) (ch : Chosen) (l : Lines) (rule place : ℕ) : Type 
   pub first : 1 ≤ rule
   pub last : rule ≤ ruleCount
   pub index : ℕ
-  pub inside : index < placesOf (r .counts) rule
+  pub inside : index < placesOf (r .header .counts) rule
   pub there : place ≡ placeAt rule index
   pub broken : brokenAt r ch l rule index ≡ true
 

@@ -5,15 +5,16 @@ pub mod weighings;
 
 use certs::Chosen;
 use lines::Lines;
+use readings::weighings::WeighingKind;
 use records::Run;
 use rules::Beside;
 use rules::Part;
 use rules::site::minimum_points;
-use weighings::Weighed;
 use weighings::of_kind;
 ghost use mathlib.Core.Path.{_≡_};
 ghost use Prim.Native.Nat.{_≤_};
 ghost use lib.ListN.{take};
+ghost use Rattle.readings.specs.Ranges.{greatestWeighingCount};
 ghost use Rattle.findings.specs.Listing.{besideOf, findingAt, findings, mostFindings, listed, accepted, Worked};
 
 // A broken rule: its number, its class and the place.
@@ -34,20 +35,20 @@ pub struct Findings {
 
 // What the rules may see of a run beside the part that each looks at.
 fn beside_of(run: Run, chosen: Chosen, lines: Lines) -> Beside
-    requires { ⌜ run .counts .weighings ≤ 8 ⌝ }
+    requires { ⌜ run .header .counts .weighings ≤ greatestWeighingCount ⌝ }
     ensures { λ r. ⌜ r ≡ besideOf run chosen lines ⌝ }
 {
+    let header = run.header;
+    let site = header.site;
+    let counts = header.counts;
     let weighings = run.weighings;
-    let weighed = run.counts.weighings;
-    let site = run.site;
-    let counts = run.counts;
     Beside {
         chosen: chosen,
         lines: lines,
         site: site,
         counts: counts,
-        filters: of_kind(Weighed::FILTER, weighings, weighed),
-        rinses: of_kind(Weighed::RINSE, weighings, weighed),
+        filters: of_kind(WeighingKind::FILTER, weighings, counts.weighings),
+        rinses: of_kind(WeighingKind::RINSE, weighings, counts.weighings),
         least: minimum_points(site),
     }
 }
@@ -68,6 +69,7 @@ pub fn find(run: Run, chosen: Chosen, lines: Lines) -> Findings
     requires { ⌜ Worked run chosen lines ⌝ }
     ensures { λ r. ⌜ r ≡ listed (findings run chosen lines) ⌝ }
 {
+    let header = run.header;
     let points = run.points;
     let segments = run.segments;
     let weighings = run.weighings;
@@ -81,7 +83,7 @@ pub fn find(run: Run, chosen: Chosen, lines: Lines) -> Findings
     let mut done: u8 = 0;
     while done < rules::RULES {
         let rule = done + 1;
-        let places = rules::places(run.counts, rule);
+        let places = rules::places(header.counts, rule);
         let mut i: u8 = 0;
         while i < places {
             let part = match rule {
