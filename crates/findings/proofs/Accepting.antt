@@ -9,10 +9,10 @@ use native.Mathlib.Omega.{arith}
 use borrow.Author.Tests.{eq-eqb, ne-eqb}
 use lib.Dec.{eqb}
 use lib.ListN.{length, getD, take}
-use lib.Seq.{take-length, take-append-seam}
+use lib.Seq.{take-length}
 use Rattle.rules.specs.Rules.{fault}
 use Rattle.findings.specs.declared.Finding.{Finding}
-use Rattle.findings.specs.Listing.{accepted, noFinding, listed}
+use Rattle.findings.specs.Listing.{accepted, noFinding}
 
 and-false : (b : Bool) → false ≡ (b && false)
 and-false true = refl
@@ -41,8 +41,3 @@ accepted-exactly fs = (
   (λ yes-accepted i l e. false≢true (fault-void fs (length fs) i l e ∙ rw (take-length fs) yes-accepted)),
   (λ none. rw (take-length fs) at (sym (notes-accepted fs (length fs) none))),
 )
-
--- a list that was handed over is read back
-pub listed-back : (fs : List Finding) → take (listed fs .count) (listed fs .list) ≡ fs
-unfolding listed
-listed-back fs = take-append-seam fs _

@@ -90,9 +90,6 @@ factor-once (Found b) Nothing = omega arith
 factor-once b (Found a) = omega (arith, bit-le (broken (moved b (Found a))))
 
 -- 12 to 16: each speaks of a line that the next needs
-none-known : Known 0 ≡ Missing → ⊥
-none-known e = let z : _≡_ {A = ℕ} 0 1 = cc in omega arith
-
 zero-once : (v : Value) (rest : ℕ) → rest ≤ 1 → (v ≡ Known 0 → rest ≡ 0) → bit (broken (lineAgainst v Same 0)) + rest ≤ 1
 unfolding broken lineAgainst holds
 zero-once Missing rest le none = omega arith

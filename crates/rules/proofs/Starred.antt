@@ -1,7 +1,5 @@
 -- The starred values, each by computation, and how lists of them are put together.
-use Prim.Native.Nat.{ℕ}
 use mathlib.Core.Path.{_≡_, refl}
-use mathlib.Core.Bool.{Bool}
 use mathlib.Core.List.{List, [], _∷_, _++_, map}
 use lib.Dec.{ltb}
 use Rattle.certs.specs.Comparing.{holds, apart}

@@ -91,10 +91,11 @@ disturbed s =
     (compare (s .next * halfDiameter s .under) Below (halfDiameter s .over))
     (compare (s .last * diameter s .under) Below (nearestLast * diameter s .over))
 
--- from where on a site is undisturbed, in diameters from the last disturbance and to the next
+-- from where on a site is undisturbed, in diameters from the last disturbance
 abbrev pub farLast : ℕ
 farLast = 8
 
+-- and in diameters to the next
 abbrev pub farNext : ℕ
 farNext = 2
 
@@ -111,19 +112,23 @@ wideDiameter = 240
 abbrev pub wide : Site → Bool
 wide s = ltb (wideDiameter * diameter s .under) (diameter s .over)
 
--- the least numbers of points: undisturbed and above 24 in, undisturbed round and rectangular, and the house's round and rectangular
+-- the least number of points at an undisturbed site: above 24 in
 abbrev pub leastWide : ℕ
 leastWide = 12
 
+-- otherwise of a round stack
 abbrev pub leastRound : ℕ
 leastRound = 8
 
+-- and of a rectangular one
 abbrev pub leastRectangular : ℕ
 leastRectangular = 9
 
+-- the house's least number of points short of that: of a round stack
 abbrev pub leastDisturbedRound : ℕ
 leastDisturbedRound = 24
 
+-- and of a rectangular one
 abbrev pub leastDisturbedRectangular : ℕ
 leastDisturbedRectangular = 25
 
@@ -164,10 +169,11 @@ unfoldable pub lineAgainst : Value → Way → ℕ → Ground
 lineAgainst Missing way limit = Silent
 lineAgainst (Known n) way limit = Compared (compare n way limit)
 
--- the least and the greatest percent isokinetic, 0.01 percent
+-- the least percent isokinetic, 0.01 percent
 abbrev pub leastIsokinetic : ℕ
 leastIsokinetic = 9000
 
+-- the greatest percent isokinetic, 0.01 percent
 abbrev pub greatestIsokinetic : ℕ
 greatestIsokinetic = 11000
 
@@ -190,30 +196,29 @@ lacking weighed = Compared (compare weighed Below 1)
 abbrev pub negative : ℤ → Ground
 negative catch = SignedBelow catch (pos 0)
 
--- The table: what each of the twenty goes by, of its part and of what stands beside it
--- Rule 13: line 6 is present only where line 3 is not 0 and Y is known
+-- The table: what each of the twenty goes by, of its part and of what stands beside it; line 6 is present only where line 3 is not 0 and Y is known
 unfoldable pub grounds : Part → Beside → List Ground
 grounds part b =
-    missing (b .chosen .before)
-    ∷ missing (b .chosen .pitot)
-    ∷ missing (b .chosen .nozzle)
-    ∷ missing (b .chosen .after)
-    ∷ moved (b .chosen .before) (b .chosen .after)
-    ∷ uneven (b .chosen .nozzle)
-    ∷ narrow (b .site)
-    ∷ disturbed (b .site)
-    ∷ wrongPoints (b .site .shape) (b .least) (b .counts .points)
-    ∷ short part
-    ∷ leaking (b .lines .metering .time) (b .lines .metering .volume) part
-    ∷ lineAgainst (Known (b .lines .metering .corrected)) Same 0
-    ∷ lineAgainst (b .lines .metering .dry) Same 0
-    ∷ lineAgainst (b .lines .stack .velocity) Same 0
-    ∷ lineAgainst (b .lines .sampling .isokinetic) Below leastIsokinetic
-    ∷ lineAgainst (b .lines .sampling .isokinetic) Above greatestIsokinetic
-    ∷ unsteady part
-    ∷ lacking (b .filters)
-    ∷ lacking (b .rinses)
-    ∷ negative (b .lines .sampling .catch)
+    missing (b .chosen .before)  -- 1
+    ∷ missing (b .chosen .pitot)  -- 2
+    ∷ missing (b .chosen .nozzle)  -- 3
+    ∷ missing (b .chosen .after)  -- 4
+    ∷ moved (b .chosen .before) (b .chosen .after)  -- 5
+    ∷ uneven (b .chosen .nozzle)  -- 6
+    ∷ narrow (b .site)  -- 7
+    ∷ disturbed (b .site)  -- 8
+    ∷ wrongPoints (b .site .shape) (b .least) (b .counts .points)  -- 9
+    ∷ short part  -- 10
+    ∷ leaking (b .lines .metering .time) (b .lines .metering .volume) part  -- 11
+    ∷ lineAgainst (Known (b .lines .metering .corrected)) Same 0  -- 12
+    ∷ lineAgainst (b .lines .metering .dry) Same 0  -- 13
+    ∷ lineAgainst (b .lines .stack .velocity) Same 0  -- 14
+    ∷ lineAgainst (b .lines .sampling .isokinetic) Below leastIsokinetic  -- 15
+    ∷ lineAgainst (b .lines .sampling .isokinetic) Above greatestIsokinetic  -- 16
+    ∷ unsteady part  -- 17
+    ∷ lacking (b .filters)  -- 18
+    ∷ lacking (b .rinses)  -- 19
+    ∷ negative (b .lines .sampling .catch)  -- 20
     ∷ []
 
 -- how many rules there are
@@ -240,10 +245,11 @@ placesOf n rule =
 unfoldable pub placeAt : ℕ → ℕ → ℕ
 placeAt rule i = cond (oneOf (10 ∷ 11 ∷ 17 ∷ []) rule) (i + 1) 0
 
--- the classes of findings
+-- the class of a fault
 abbrev pub fault : ℕ
 fault = 1
 
+-- the class of a note
 abbrev pub note : ℕ
 note = 2
 

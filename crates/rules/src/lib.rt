@@ -51,7 +51,7 @@ pub enum Part {
 }
 
 // What a rule may see beside its part: the chosen certificates, the lines, the site, the counts, how many filters and
-// rinses there are, and the least number of points, however it came about.
+// rinses there are, and the least number of points, the number and not how it came about.
 pub struct Beside {
     pub chosen: Chosen,
     pub lines: Lines,
@@ -62,7 +62,7 @@ pub struct Beside {
     pub least: u64,
 }
 
-// The table: what a rule goes by.
+// The table: what a rule goes by, of its part and of what stands beside it.
 pub fn ground_of(part: Part, beside: Beside, rule: u8) -> Ground
     requires { ⌜ Judgeable beside rule ⌝ }
     ensures { λ r. ⌜ r ≡ groundOf part beside rule ⌝ }
@@ -132,8 +132,7 @@ pub fn class(rule: u8) -> u8
     ensures { λ r. ⌜ r ≡ classOf rule ⌝ }
 {
     match rule {
-        5 => NOTE,
-        11 => NOTE,
+        5 | 11 => NOTE,
         _ => FAULT,
     }
 }
