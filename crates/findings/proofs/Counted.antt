@@ -8,7 +8,7 @@ use lib.ListN.{getD}
 use Rattle.records.specs.declared.Weighing.{Weighing}
 use Rattle.records.specs.Records.{noWeighing}
 use Rattle.records.proofs.Sums.{sum-none, sum-more}
-use Rattle.findings.specs.Rules.{oneOfKind, ofKind}
+use Rattle.findings.specs.Listing.{oneOfKind, ofKind}
 
 module _ (kind : ℕ) (ws : List Weighing) where
   pub kind-none : 0 ≡ ofKind kind ws 0

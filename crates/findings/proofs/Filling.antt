@@ -9,32 +9,33 @@ use native.Mathlib.Numerals.{add-one}
 use native.Mathlib.Omega.{arith}
 use lib.ListN.{length, replicate, set, length-append}
 use lib.Seq.{set-at, append-snoc}
+use Rattle.rules.specs.Rules.{ruleCount}
 use Rattle.findings.specs.declared.Finding.{Finding}
 use Rattle.findings.specs.declared.Findings.{Findings}
-use Rattle.findings.specs.Listing.{findingAt, ruleFindings, findingsTo, most, noFinding, listed}
+use Rattle.findings.specs.Listing.{findingAt, ruleFindings, findingsTo, mostFindings, noFinding, listed}
 
--- the findings fs stand in the array xs, n of them, and zeros behind them
-pub record Stands (fs : List Finding) (n : ℕ) (xs : List Finding) : Type 0 where
+-- the findings fs are entered in the array xs, n of them, and zeros behind them
+pub record Entered (fs : List Finding) (n : ℕ) (xs : List Finding) : Type 0 where
   pub count : n ≡ length fs
-  pub list : xs ≡ fs ++ replicate (most - length fs) noFinding
+  pub list : xs ≡ fs ++ replicate (mostFindings - length fs) noFinding
 
-pub stands-none : Stands [] 0 (replicate most noFinding)
-stands-none = record { count = refl; list = refl }
+pub entered-none : Entered [] 0 (replicate mostFindings noFinding)
+entered-none = record { count = refl; list = refl }
 
-pub stands-more : (fs : List Finding) (f : Finding) {n : ℕ} {xs : List Finding} → Stands fs n xs → length fs < most → Stands (fs ++ (f ∷ [])) (n + 1) (set xs n f)
-stands-more fs f {n} {xs} s room =
+pub entered-more : (fs : List Finding) (f : Finding) {n : ℕ} {xs : List Finding} → Entered fs n xs → length fs < mostFindings → Entered (fs ++ (f ∷ [])) (n + 1) (set xs n f)
+entered-more fs f {n} {xs} s room =
     let longer : length (fs ++ (f ∷ [])) ≡ length fs + 1 = length-append fs (f ∷ []) in
-    let k : ℕ = 97 - length fs in
-    let here : most - length fs ≡ suc k = omega arith in
-    let behind : most - length (fs ++ (f ∷ [])) ≡ k = omega arith in
+    let k : ℕ = mostFindings - suc (length fs) in
+    let here : mostFindings - length fs ≡ suc k = omega arith in
+    let behind : mostFindings - length (fs ++ (f ∷ [])) ≡ k = omega arith in
     record {
       count = omega (arith, s .count);
       list = rw (s .list, here, behind, append-snoc) (set-at fs noFinding (replicate k noFinding) f n (sym (s .count)));
     }
 
-pub stands-listed : {fs : List Finding} {n : ℕ} {xs : List Finding} → Stands fs n xs → _≡_ {A = Findings} (record { count = n; list = xs }) (listed fs)
+pub entered-listed : {fs : List Finding} {n : ℕ} {xs : List Finding} → Entered fs n xs → _≡_ {A = Findings} (record { count = n; list = xs }) (listed fs)
 unfolding listed
-stands-listed s = λ i. record { count = s .count i; list = s .list i }
+entered-listed s = λ i. record { count = s .count i; list = s .list i }
 
 -- a number that never falls from one step to the next
 pub rising : (f : ℕ → ℕ) → ((i : ℕ) → f i ≤ f (suc i)) → (i j : ℕ) → i ≤ j → f i ≤ f j
@@ -82,7 +83,7 @@ module _ (isBroken : ℕ → ℕ → Bool) (places : ℕ → ℕ) where
       (λ k. omega (arith, length-append (findingsTo isBroken places k) (ruleFindings (isBroken (k + 1)) (k + 1) (places (k + 1)))))
 
   -- where a rule is broken, the list is not yet as long as it will be
-  pub room : (k i : ℕ) {test : Bool} → k < 20 → i < places (k + 1) → test ≡ isBroken (k + 1) i → test ≡ true → length (findingsTo isBroken places k ++ ruleFindings (isBroken (k + 1)) (k + 1) i) < length (findingsTo isBroken places 20)
+  pub room : (k i : ℕ) {test : Bool} → k < ruleCount → i < places (k + 1) → test ≡ isBroken (k + 1) i → test ≡ true → length (findingsTo isBroken places k ++ ruleFindings (isBroken (k + 1)) (k + 1) i) < length (findingsTo isBroken places ruleCount)
   room k i rule-in place-in t e =
       let fs : List Finding = findingsTo isBroken places k in
       let now : List Finding = ruleFindings (isBroken (k + 1)) (k + 1) i in
@@ -90,25 +91,25 @@ module _ (isBroken : ℕ → ℕ → Bool) (places : ℕ → ℕ) where
       let more : length (ruleFindings (isBroken (k + 1)) (k + 1) (i + 1)) ≡ length now + 1 =
       ap length (found-more (k + 1) i t e) ∙ length-append now (findingAt (k + 1) i ∷ []) in
       let place-le : i + 1 ≤ places (k + 1) = omega arith in
-      let rule-le : k + 1 ≤ 20 = omega arith in
+      let rule-le : k + 1 ≤ ruleCount = omega arith in
       let next : length (findingsTo isBroken places (k + 1)) ≡ length fs + length all = ap length (rule-more k) ∙ length-append fs all in
       omega (arith, length-append fs now, rule-rising (k + 1) _ _ place-le, rules-rising _ _ rule-le)
 
-  -- what stands in the list, through the loop over places and the loop over rules
-  pub stands-first : (k : ℕ) {n : ℕ} {xs : List Finding} → Stands (findingsTo isBroken places k) n xs → Stands (findingsTo isBroken places k ++ ruleFindings (isBroken (k + 1)) (k + 1) 0) n xs
-  stands-first k s = rw (found-none (findingsTo isBroken places k) (k + 1)) s
+  -- what is entered in the list, through the loop over places and the loop over rules
+  pub entered-first : (k : ℕ) {n : ℕ} {xs : List Finding} → Entered (findingsTo isBroken places k) n xs → Entered (findingsTo isBroken places k ++ ruleFindings (isBroken (k + 1)) (k + 1) 0) n xs
+  entered-first k s = rw (found-none (findingsTo isBroken places k) (k + 1)) s
 
-  pub stands-room : (k i : ℕ) {n : ℕ} {xs : List Finding} {test : Bool} → length (findingsTo isBroken places 20) ≤ most → k < 20 → i < places (k + 1) → test ≡ isBroken (k + 1) i → test ≡ true → Stands (findingsTo isBroken places k ++ ruleFindings (isBroken (k + 1)) (k + 1) i) n xs → n < most
-  stands-room k i within rule-in place-in t e s =
+  pub entered-room : (k i : ℕ) {n : ℕ} {xs : List Finding} {test : Bool} → length (findingsTo isBroken places ruleCount) ≤ mostFindings → k < ruleCount → i < places (k + 1) → test ≡ isBroken (k + 1) i → test ≡ true → Entered (findingsTo isBroken places k ++ ruleFindings (isBroken (k + 1)) (k + 1) i) n xs → n < mostFindings
+  entered-room k i within rule-in place-in t e s =
       rw (s .count) (lt-of-lt-of-le (room k i rule-in place-in t e) within)
 
-  pub stands-found : (k i : ℕ) {n : ℕ} {xs : List Finding} {test : Bool} {f : Finding} → length (findingsTo isBroken places 20) ≤ most → k < 20 → i < places (k + 1) → test ≡ isBroken (k + 1) i → test ≡ true → f ≡ findingAt (k + 1) i → Stands (findingsTo isBroken places k ++ ruleFindings (isBroken (k + 1)) (k + 1) i) n xs → Stands (findingsTo isBroken places k ++ ruleFindings (isBroken (k + 1)) (k + 1) (i + 1)) (n + 1) (set xs n f)
-  stands-found k i within rule-in place-in t e is s =
+  pub entered-found : (k i : ℕ) {n : ℕ} {xs : List Finding} {test : Bool} {f : Finding} → length (findingsTo isBroken places ruleCount) ≤ mostFindings → k < ruleCount → i < places (k + 1) → test ≡ isBroken (k + 1) i → test ≡ true → f ≡ findingAt (k + 1) i → Entered (findingsTo isBroken places k ++ ruleFindings (isBroken (k + 1)) (k + 1) i) n xs → Entered (findingsTo isBroken places k ++ ruleFindings (isBroken (k + 1)) (k + 1) (i + 1)) (n + 1) (set xs n f)
+  entered-found k i within rule-in place-in t e is s =
       rw (found-more (k + 1) i t e, is, ← append-assoc)
-      (stands-more _ (findingAt (k + 1) i) s (lt-of-lt-of-le (room k i rule-in place-in t e) within))
+      (entered-more _ (findingAt (k + 1) i) s (lt-of-lt-of-le (room k i rule-in place-in t e) within))
 
-  pub stands-passed : (k i : ℕ) {n : ℕ} {xs : List Finding} {test : Bool} → test ≡ isBroken (k + 1) i → test ≡ false → Stands (findingsTo isBroken places k ++ ruleFindings (isBroken (k + 1)) (k + 1) i) n xs → Stands (findingsTo isBroken places k ++ ruleFindings (isBroken (k + 1)) (k + 1) (i + 1)) n xs
-  stands-passed k i t e s = rw (found-passed (k + 1) i t e) s
+  pub entered-passed : (k i : ℕ) {n : ℕ} {xs : List Finding} {test : Bool} → test ≡ isBroken (k + 1) i → test ≡ false → Entered (findingsTo isBroken places k ++ ruleFindings (isBroken (k + 1)) (k + 1) i) n xs → Entered (findingsTo isBroken places k ++ ruleFindings (isBroken (k + 1)) (k + 1) (i + 1)) n xs
+  entered-passed k i t e s = rw (found-passed (k + 1) i t e) s
 
-  pub stands-rule : (k i : ℕ) {n : ℕ} {xs : List Finding} → i ≡ places (k + 1) → Stands (findingsTo isBroken places k ++ ruleFindings (isBroken (k + 1)) (k + 1) i) n xs → Stands (findingsTo isBroken places (k + 1)) n xs
-  stands-rule k i all s = rw (rule-more k, ← all) s
+  pub entered-rule : (k i : ℕ) {n : ℕ} {xs : List Finding} → i ≡ places (k + 1) → Entered (findingsTo isBroken places k ++ ruleFindings (isBroken (k + 1)) (k + 1) i) n xs → Entered (findingsTo isBroken places (k + 1)) n xs
+  entered-rule k i all s = rw (rule-more k, ← all) s

@@ -1,9 +1,6 @@
--- The laws of the rules and of the list, which the layers above cite.
-pub mod Products
-pub mod Grids
+-- The laws of the list, which the layers above cite.
 pub mod Counted
 pub mod Places
-pub mod Parts
 pub mod Filling
 pub mod InRange
 pub mod Absent
@@ -12,6 +9,5 @@ pub mod Accepting
 pub mod Members
 pub mod Sorted
 pub mod Independence
-pub mod Starred
 pub mod Reached
 pub mod Words

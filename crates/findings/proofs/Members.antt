@@ -11,8 +11,8 @@ use Rattle.records.specs.declared.Run.{Run}
 use Rattle.lines.specs.declared.Lines.{Lines}
 use Rattle.certs.specs.declared.Chosen.{Chosen}
 use Rattle.findings.specs.declared.Finding.{Finding}
-use Rattle.findings.specs.Rules.{placesOf, placeOf}
-use Rattle.findings.specs.Listing.{brokenAt, findingAt, ruleFindings, findingsTo, findings, noFinding, Breaks, Holds}
+use Rattle.rules.specs.Rules.{ruleCount, placesOf, placeAt}
+use Rattle.findings.specs.Listing.{brokenAt, findingAt, ruleFindings, findingsTo, findings, noFinding, Breaks, HasFinding}
 
 -- what stands at an index of a list is in it
 pub at-index : (fs : List Finding) (i : ℕ) → i < length fs → List·Memᴰ (getD fs i noFinding) fs
@@ -92,16 +92,16 @@ module _ (isBroken : ℕ → ℕ → Bool) (places : ℕ → ℕ) where
           Memᴰ·append-left (ruleFindings (isBroken (k + 1)) (k + 1) (places (k + 1))) (earlier (le-of-suc-le-suc l))
 
 -- Demand 3, the list: a finding of a rule at a place is in it if and only if the run breaks that rule at that place
-pub listed-exactly : (r : Run) (ch : Chosen) (l : Lines) (rule place : ℕ) → Holds (findings r ch l) rule place ↔ Breaks r ch l rule place
+pub listed-exactly : (r : Run) (ch : Chosen) (l : Lines) (rule place : ℕ) → HasFinding (findings r ch l) rule place ↔ Breaks r ch l rule place
 unfolding findings findingAt
 listed-exactly r ch l rule place = (found, present)
   where
-    found : Holds (findings r ch l) rule place → Breaks r ch l rule place
+    found : HasFinding (findings r ch l) rule place → Breaks r ch l rule place
     found h =
-        let o : OfRules (brokenAt r ch l) (placesOf (r .counts)) 20 (getD (findings r ch l) (h .index) noFinding) =
-        all-members (brokenAt r ch l) (placesOf (r .counts)) 20 (at-index (findings r ch l) (h .index) (h .inside)) in
+        let o : OfRules (brokenAt r ch l) (placesOf (r .header .counts)) ruleCount (getD (findings r ch l) (h .index) noFinding) =
+        all-members (brokenAt r ch l) (placesOf (r .header .counts)) ruleCount (at-index (findings r ch l) (h .index) (h .inside)) in
         let number : o .rule ≡ rule = sym (ap (λ (f : Finding). f .rule) (o .of .is)) ∙ h .same .0 in
-        let there : placeOf (o .rule) (o .of .index) ≡ place = sym (ap (λ (f : Finding). f .place) (o .of .is)) ∙ h .same .1 in
+        let there : placeAt (o .rule) (o .of .index) ≡ place = sym (ap (λ (f : Finding). f .place) (o .of .is)) ∙ h .same .1 in
         rw (← number, ← there)
         (record {
           first = o .first;
@@ -112,9 +112,9 @@ listed-exactly r ch l rule place = (found, present)
           broken = o .of .broken;
         })
 
-    present : Breaks r ch l rule place → Holds (findings r ch l) rule place
+    present : Breaks r ch l rule place → HasFinding (findings r ch l) rule place
     present b =
-        let (i, (inside, is)) = index-of (all-hold (brokenAt r ch l) (placesOf (r .counts)) 20 rule (b .index) (b .first) (b .last) (b .inside) (b .broken)) in
+        let (i, (inside, is)) = index-of (all-hold (brokenAt r ch l) (placesOf (r .header .counts)) ruleCount rule (b .index) (b .first) (b .last) (b .inside) (b .broken)) in
         record {
           index = i;
           inside = inside;

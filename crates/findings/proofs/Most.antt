@@ -9,6 +9,7 @@ use native.Mathlib.Omega.{arith}
 use borrow.Author.Tests.{eq-eqb, eqb-true, le-ltb, ltb-true}
 use lib.Dec.{eqb, ltb}
 use lib.ListN.{length, getD, length-append}
+use Rattle.readings.specs.Ranges.{greatestPointCount, greatestSegmentCount, greatestWeighingCount, filterKind, rinseKind}
 use Rattle.readings.proofs.Ranges.{within-least, within-greatest}
 use Rattle.records.specs.declared.Weighing.{Weighing}
 use Rattle.records.specs.declared.Run.{Run}
@@ -22,9 +23,10 @@ use Rattle.certs.specs.declared.Lookup.the-variants.{Found, Nothing}
 use Rattle.certs.specs.declared.Chosen.{Chosen}
 use Rattle.certs.specs.declared.comparison.Way.the-variants.{Below, Above, Same}
 use Rattle.certs.specs.Comparing.{holds}
-use Rattle.findings.specs.Grounds.{broken}
-use Rattle.findings.specs.Rules.{missing, moved, uneven, judged, ofKind, oneOfKind, lacking, certificateGrounds, lineGrounds, weighingGrounds, groundOf, placesOf}
-use Rattle.findings.specs.Listing.{brokenAt, findingAt, ruleFindings, findingsTo, findings, linesFor, findingsFor, most, Worked}
+use Rattle.rules.specs.declared.Beside.{Beside}
+use Rattle.rules.specs.Grounds.{broken}
+use Rattle.rules.specs.Rules.{missing, moved, uneven, lineAgainst, leastIsokinetic, greatestIsokinetic, lacking, ruleCount, grounds, groundOf, placesOf}
+use Rattle.findings.specs.Listing.{partOf, oneOfKind, ofKind, besideOf, brokenAt, findingAt, ruleFindings, findingsTo, findings, linesFor, findingsFor, mostFindings, Worked}
 use Rattle.findings.proofs.Filling.{rising}
 use Rattle.findings.proofs.Absent.{no-volume, no-moisture, no-gas, no-velocity, no-flow}
 
@@ -88,11 +90,8 @@ factor-once (Found b) Nothing = omega arith
 factor-once b (Found a) = omega (arith, bit-le (broken (moved b (Found a))))
 
 -- 12 to 16: each speaks of a line that the next needs
-none-known : Known 0 ≡ Missing → ⊥
-none-known e = let z : _≡_ {A = ℕ} 0 1 = cc in omega arith
-
-zero-once : (v : Value) (rest : ℕ) → rest ≤ 1 → (v ≡ Known 0 → rest ≡ 0) → bit (broken (judged v Same 0)) + rest ≤ 1
-unfolding broken judged holds
+zero-once : (v : Value) (rest : ℕ) → rest ≤ 1 → (v ≡ Known 0 → rest ≡ 0) → bit (broken (lineAgainst v Same 0)) + rest ≤ 1
+unfolding broken lineAgainst holds
 zero-once Missing rest le none = omega arith
 zero-once (Known n) rest le none = go (eqb n 0) (λ e. none (ap Known (eqb-true n 0 e)))
   where
@@ -100,25 +99,25 @@ zero-once (Known n) rest le none = go (eqb n 0) (λ e. none (ap Known (eqb-true 
     go true h = omega (arith, h refl)
     go false h = omega arith
 
-zero-missing : (v : Value) (rest : ℕ) → v ≡ Missing → rest ≡ 0 → bit (broken (judged v Same 0)) + rest ≡ 0
-unfolding broken judged
+zero-missing : (v : Value) (rest : ℕ) → v ≡ Missing → rest ≡ 0 → bit (broken (lineAgainst v Same 0)) + rest ≡ 0
+unfolding broken lineAgainst
 zero-missing v rest e none = rw e (omega arith)
 
 -- the percent isokinetic is not below 9,000 and above 11,000
-percent-once : (v : Value) → bit (broken (judged v Below 9000)) + bit (broken (judged v Above 11000)) ≤ 1
-unfolding broken judged holds
+percent-once : (v : Value) → bit (broken (lineAgainst v Below leastIsokinetic)) + bit (broken (lineAgainst v Above greatestIsokinetic)) ≤ 1
+unfolding broken lineAgainst holds
 percent-once Missing = omega arith
-percent-once (Known n) = go (ltb n 9000) refl
+percent-once (Known n) = go (ltb n leastIsokinetic) refl
   where
-    go : (t : Bool) → ltb n 9000 ≡ t → bit t + bit (ltb 11000 n) ≤ 1
+    go : (t : Bool) → ltb n leastIsokinetic ≡ t → bit t + bit (ltb greatestIsokinetic n) ≤ 1
     go true e =
-        let low : n < 9000 = ltb-true _ _ e in
-        let not-high : n ≤ 11000 = omega arith in
-        rw (le-ltb 11000 n not-high) (omega arith)
-    go false e = omega (arith, bit-le (ltb 11000 n))
+        let low : n < leastIsokinetic = ltb-true _ _ e in
+        let not-high : n ≤ greatestIsokinetic = omega arith in
+        rw (le-ltb greatestIsokinetic n not-high) (omega arith)
+    go false e = omega (arith, bit-le (ltb greatestIsokinetic n))
 
-percent-missing : (v : Value) → v ≡ Missing → bit (broken (judged v Below 9000)) + bit (broken (judged v Above 11000)) ≡ 0
-unfolding broken judged
+percent-missing : (v : Value) → v ≡ Missing → bit (broken (lineAgainst v Below leastIsokinetic)) + bit (broken (lineAgainst v Above greatestIsokinetic)) ≡ 0
+unfolding broken lineAgainst
 percent-missing v e = rw e (omega arith)
 
 -- 18 and 19: a weighing is of a filter or of a rinse
@@ -129,102 +128,114 @@ kind-some kind ws n some e =
     let up : ofKind kind ws 1 ≤ ofKind kind ws n = rising (λ m. ofKind kind ws m) (λ m. omega arith) 1 n some in
     omega arith
 
-not-lacking : (kind : ℕ) (ws : List Weighing) (n : ℕ) → 1 ≤ ofKind kind ws n → broken (lacking kind ws n) ≡ false
+not-lacking : (n : ℕ) → 1 ≤ n → broken (lacking n) ≡ false
 unfolding broken holds
-not-lacking kind ws n h = le-ltb _ _ h
+not-lacking n some = le-ltb _ _ some
 
-weighed-once : (ws : List Weighing) (n many : ℕ) → n ≤ 8 → many ≤ n → ((i : ℕ) → i < n → (1 ≤ getD ws i noWeighing .kind) × (getD ws i noWeighing .kind ≤ 2)) → many + bit (broken (lacking 1 ws n)) + bit (broken (lacking 2 ws n)) ≤ 9
+weighed-once : (ws : List Weighing) (n many : ℕ) → n ≤ greatestWeighingCount → many ≤ n → ((i : ℕ) → i < n → (filterKind ≤ getD ws i noWeighing .kind) × (getD ws i noWeighing .kind ≤ rinseKind)) → many + bit (broken (lacking (ofKind filterKind ws n))) + bit (broken (lacking (ofKind rinseKind ws n))) ≤ greatestWeighingCount + 1
 weighed-once ws n many few le kinds = go (decLe 1 n)
   where
     first : ℕ
     first = getD ws 0 noWeighing .kind
 
-    filter : 1 ≤ n → first ≡ 1 → many + bit (broken (lacking 1 ws n)) + bit (broken (lacking 2 ws n)) ≤ 9
+    no-filter : ℕ
+    no-filter = bit (broken (lacking (ofKind filterKind ws n)))
+
+    no-rinse : ℕ
+    no-rinse = bit (broken (lacking (ofKind rinseKind ws n)))
+
+    filter : 1 ≤ n → first ≡ filterKind → many + no-filter + no-rinse ≤ greatestWeighingCount + 1
     filter some e =
-        rw (not-lacking 1 ws n (kind-some 1 ws n some e)) (omega (arith, bit-le (broken (lacking 2 ws n))))
+        rw (not-lacking _ (kind-some filterKind ws n some e)) (omega (arith, bit-le (broken (lacking (ofKind rinseKind ws n)))))
 
-    rinse : 1 ≤ n → first ≡ 2 → many + bit (broken (lacking 1 ws n)) + bit (broken (lacking 2 ws n)) ≤ 9
+    rinse : 1 ≤ n → first ≡ rinseKind → many + no-filter + no-rinse ≤ greatestWeighingCount + 1
     rinse some e =
-        rw (not-lacking 2 ws n (kind-some 2 ws n some e)) (omega (arith, bit-le (broken (lacking 1 ws n))))
+        rw (not-lacking _ (kind-some rinseKind ws n some e)) (omega (arith, bit-le (broken (lacking (ofKind filterKind ws n)))))
 
-    either : 1 ≤ n → Dec (first ≤ 1) → (1 ≤ first) × (first ≤ 2) → many + bit (broken (lacking 1 ws n)) + bit (broken (lacking 2 ws n)) ≤ 9
+    either : 1 ≤ n → Dec (first ≤ filterKind) → (filterKind ≤ first) × (first ≤ rinseKind) → many + no-filter + no-rinse ≤ greatestWeighingCount + 1
     either some (yes low) range = filter some (omega arith)
     either some (no high) range = rinse some (omega arith)
 
-    go : Dec (1 ≤ n) → many + bit (broken (lacking 1 ws n)) + bit (broken (lacking 2 ws n)) ≤ 9
-    go (yes some) = either some (decLe first 1) (kinds 0 some)
-    go (no none) = omega (arith, bit-le (broken (lacking 1 ws n)), bit-le (broken (lacking 2 ws n)))
+    go : Dec (1 ≤ n) → many + no-filter + no-rinse ≤ greatestWeighingCount + 1
+    go (yes some) = either some (decLe first filterKind) (kinds 0 some)
+    go (no none) =
+        omega (arith, bit-le (broken (lacking (ofKind filterKind ws n))), bit-le (broken (lacking (ofKind rinseKind ws n))))
 
 module _ (r : Run) (ch : Chosen) (l : Lines) (w : Worked r ch l) where
   -- rules 12 to 16 together
   lines-once : bit (brokenAt r ch l 12 0) + (bit (brokenAt r ch l 13 0) + (bit (brokenAt r ch l 14 0) + (bit (brokenAt r ch l 15 0) + bit (brokenAt r ch l 16 0)))) ≤ 1
-  unfolding brokenAt groundOf lineGrounds
+  unfolding besideOf brokenAt grounds groundOf
   lines-once =
       zero-once _ _ (zero-once _ _ (zero-once _ _ (percent-once _)
       (λ e. percent-missing _ (no-flow r ch l (w .lines) e)))
       (λ e. after-velocity (no-gas r ch l (w .lines) e)))
       (λ e. let zero-volume : l .metering .corrected ≡ 0 = cc in after-dry (no-volume r ch l (w .lines) zero-volume))
     where
-      after-velocity : l .stack .velocity ≡ Missing → bit (broken (judged (l .stack .velocity) Same 0)) + (bit (broken (judged (l .sampling .isokinetic) Below 9000)) + bit (broken (judged (l .sampling .isokinetic) Above 11000))) ≡ 0
+      after-velocity : l .stack .velocity ≡ Missing → bit (broken (lineAgainst (l .stack .velocity) Same 0)) + (bit (broken (lineAgainst (l .sampling .isokinetic) Below leastIsokinetic)) + bit (broken (lineAgainst (l .sampling .isokinetic) Above greatestIsokinetic))) ≡ 0
       after-velocity e = zero-missing _ _ e (percent-missing _ (no-velocity r ch l (w .lines) e))
 
-      after-dry : l .metering .dry ≡ Missing → bit (broken (judged (l .metering .dry) Same 0)) + (bit (broken (judged (l .stack .velocity) Same 0)) + (bit (broken (judged (l .sampling .isokinetic) Below 9000)) + bit (broken (judged (l .sampling .isokinetic) Above 11000)))) ≡ 0
+      after-dry : l .metering .dry ≡ Missing → bit (broken (lineAgainst (l .metering .dry) Same 0)) + (bit (broken (lineAgainst (l .stack .velocity) Same 0)) + (bit (broken (lineAgainst (l .sampling .isokinetic) Below leastIsokinetic)) + bit (broken (lineAgainst (l .sampling .isokinetic) Above greatestIsokinetic)))) ≡ 0
       after-dry e = zero-missing _ _ e (after-velocity (no-moisture r ch l (w .lines) e))
 
   -- how many findings rule number `rule` has
   has : ℕ → ℕ
-  has rule = many (brokenAt r ch l) (placesOf (r .counts)) rule
+  has rule = many (brokenAt r ch l) (placesOf (r .header .counts)) rule
 
-  has-le : (rule : ℕ) → has rule ≤ placesOf (r .counts) rule
+  has-le : (rule : ℕ) → has rule ≤ placesOf (r .header .counts) rule
   unfolding has
-  has-le rule = many-le (brokenAt r ch l) (placesOf (r .counts)) rule
+  has-le rule = many-le (brokenAt r ch l) (placesOf (r .header .counts)) rule
 
-  has-whole : (rule : ℕ) → placesOf (r .counts) rule ≡ 1 → has rule ≡ bit (brokenAt r ch l rule 0)
+  has-whole : (rule : ℕ) → placesOf (r .header .counts) rule ≡ 1 → has rule ≡ bit (brokenAt r ch l rule 0)
   unfolding has
-  has-whole rule e = many-whole (brokenAt r ch l) (placesOf (r .counts)) rule e
+  has-whole rule e = many-whole (brokenAt r ch l) (placesOf (r .header .counts)) rule e
 
   three-and-six : has 3 + has 6 ≤ 1
-  unfolding placesOf brokenAt groundOf certificateGrounds
+  unfolding placesOf besideOf brokenAt grounds groundOf
   three-and-six = rw (has-whole 3 refl, has-whole 6 refl) (nozzle-once (ch .nozzle))
 
   four-and-five : has 4 + has 5 ≤ 1
-  unfolding placesOf brokenAt groundOf certificateGrounds
+  unfolding placesOf besideOf brokenAt grounds groundOf
   four-and-five = rw (has-whole 4 refl, has-whole 5 refl) (factor-once (ch .before) (ch .after))
 
   twelve-to-sixteen : has 12 + (has 13 + (has 14 + (has 15 + has 16))) ≤ 1
   unfolding placesOf
   twelve-to-sixteen = rw (has-whole 12 refl, has-whole 13 refl, has-whole 14 refl, has-whole 15 refl, has-whole 16 refl) lines-once
 
-  seventeen-to-nineteen : has 17 + has 18 + has 19 ≤ 9
-  unfolding placesOf brokenAt groundOf weighingGrounds
+  seventeen-to-nineteen : has 17 + has 18 + has 19 ≤ greatestWeighingCount + 1
+  unfolding placesOf besideOf brokenAt grounds groundOf
   seventeen-to-nineteen =
       rw (has-whole 18 refl, has-whole 19 refl)
-      (weighed-once (r .weighings) (r .counts .weighings) (has 17) (within-greatest 0 8 _ (w .ok .countOfWeighings)) (has-le 17)
+      (weighed-once (r .weighings) (r .header .counts .weighings) (has 17) (within-greatest _ _ _ (w .ok .header .weighings)) (has-le 17)
       (λ i inside.
       let kind = w .ok .weighings i inside .kind in
-      (within-least 1 2 _ kind, within-greatest 1 2 _ kind)))
+      (within-least _ _ _ kind, within-greatest _ _ _ kind)))
 
-  pub all-fit : length (findingsTo (brokenAt r ch l) (placesOf (r .counts)) 20) ≤ most
+  all-fit : length (findingsTo (brokenAt r ch l) (placesOf (r .header .counts)) ruleCount) ≤ mostFindings
   unfolding placesOf sumTo has
   all-fit =
-      let points : r .counts .points ≤ 64 = within-greatest 1 64 _ (w .ok .countOfPoints) in
-      let segments : r .counts .segments ≤ 16 = within-greatest 1 16 _ (w .ok .countOfSegments) in
-      let ten : has 10 ≤ r .counts .points = has-le 10 in
-      let eleven : has 11 ≤ r .counts .segments = has-le 11 in
+      let points : r .header .counts .points ≤ greatestPointCount = within-greatest _ _ _ (w .ok .header .points) in
+      let segments : r .header .counts .segments ≤ greatestSegmentCount = within-greatest _ _ _ (w .ok .header .segments) in
+      let ten : has 10 ≤ r .header .counts .points = has-le 10 in
+      let eleven : has 11 ≤ r .header .counts .segments = has-le 11 in
       let one : has 1 ≤ 1 = has-le 1 in
       let two : has 2 ≤ 1 = has-le 2 in
       let seven : has 7 ≤ 1 = has-le 7 in
       let eight : has 8 ≤ 1 = has-le 8 in
       let nine : has 9 ≤ 1 = has-le 9 in
       let twenty : has 20 ≤ 1 = has-le 20 in
-      omega (arith, many-all (brokenAt r ch l) (placesOf (r .counts)) 20, three-and-six, four-and-five, twelve-to-sixteen, seventeen-to-nineteen)
+      omega (arith, many-all (brokenAt r ch l) (placesOf (r .header .counts)) ruleCount, three-and-six, four-and-five, twelve-to-sixteen, seventeen-to-nineteen)
+
+  -- the same where what stands beside is known only to be the run's
+  pub all-fit-beside : {beside : Beside} → beside ≡ besideOf r ch l → length (findingsTo (λ rule i. broken (groundOf (partOf r rule i) beside rule)) (placesOf (r .header .counts)) ruleCount) ≤ mostFindings
+  unfolding brokenAt
+  all-fit-beside is = rw is all-fit
 
   -- At most 98 findings
-  pub at-most : length (findings r ch l) ≤ most
+  pub at-most : length (findings r ch l) ≤ mostFindings
   unfolding findings
   at-most = all-fit
 
 -- with the lines that a run in range gives
-pub at-most-for : (r : Run) (ch : Chosen) → RunOk r → length (findingsFor r ch) ≤ most
+pub at-most-for : (r : Run) (ch : Chosen) → RunOk r → length (findingsFor r ch) ≤ mostFindings
 unfolding findingsFor
 at-most-for r ch ok = at-most r ch (linesFor r ch) (record { ok = ok; lines = refl })

@@ -1,13 +1,13 @@
--- The places of a rule: which are inside, and what place each is given.
-use Prim.Native.Nat.{ℕ, suc, _≤_, _<_}
+-- The places of a rule: which are inside, and what the rule looks at there.
+use Prim.Native.Nat.{ℕ, _<_}
 use mathlib.Core.Path.{_≡_}
-use native.Mathlib.Omega.{arith}
+use borrow.Author.Tests.{ne-eqb}
 use Rattle.records.specs.declared.Counts.{Counts}
-use Rattle.findings.specs.Rules.{placesOf}
-
--- a number from m on that is not m is past it
-pub past : (n m : ℕ) → m ≤ n → (n ≡ m → ⊥) → suc m ≤ n
-past n m h not-m = omega arith
+use Rattle.records.specs.declared.Run.{Run}
+use Rattle.records.specs.Records.{pointOf, segmentOf, weighingOf}
+use Rattle.rules.specs.declared.Part.the-variants.{Whole, OnePoint, OneSegment, OneWeighing}
+use Rattle.rules.specs.Rules.{placesOf}
+use Rattle.findings.specs.Listing.{partOf}
 
 pub inside-points : (n : Counts) {rule i : ℕ} → rule ≡ 10 → i < placesOf n rule → i < n .points
 unfolding placesOf
@@ -20,3 +20,21 @@ inside-segments n e h = rw e at h
 pub inside-weighings : (n : Counts) {rule i : ℕ} → rule ≡ 17 → i < placesOf n rule → i < n .weighings
 unfolding placesOf
 inside-weighings n e h = rw e at h
+
+module _ (r : Run) {rule : ℕ} (i : ℕ) where
+  pub part-point : rule ≡ 10 → OnePoint (pointOf r i) ≡ partOf r rule i
+  unfolding partOf
+  part-point e = rw e
+
+  pub part-segment : rule ≡ 11 → OneSegment (segmentOf r i) ≡ partOf r rule i
+  unfolding partOf
+  part-segment e = rw e
+
+  pub part-weighing : rule ≡ 17 → OneWeighing (weighingOf r i) ≡ partOf r rule i
+  unfolding partOf
+  part-weighing e = rw e
+
+  pub part-whole : (rule ≡ 10 → ⊥) → (rule ≡ 11 → ⊥) → (rule ≡ 17 → ⊥) → Whole ≡ partOf r rule i
+  unfolding partOf
+  part-whole not-ten not-eleven not-seventeen =
+      rw (ne-eqb _ _ not-ten, ne-eqb _ _ not-eleven, ne-eqb _ _ not-seventeen)

@@ -2,7 +2,8 @@
 use mathlib.Core.Path.{_≡_, refl}
 use lib.IntN.{pos}
 use lib.ListN.{length, replicate, getD-replicate}
-use Rattle.readings.specs.Ranges.{within, signedWithin}
+use Rattle.readings.specs.Ranges.{within, signedWithin, leastRunNumber, leastBarometer, rectangularShape, leastSide, leastBlankVolume, leastAcetoneDensity, greatestPointCount, greatestSegmentCount, greatestWeighingCount, leastSeconds, filterKind}
+use Rattle.readings.specs.Grids.{nextOf, nextGrid}
 use Rattle.records.specs.declared.Identity.{Identity}
 use Rattle.records.specs.declared.Point.{Point}
 use Rattle.records.specs.declared.Segment.{Segment}
@@ -18,47 +19,50 @@ use Rattle.lines.specs.Sampling.{drawnGas, isokinetic, deduction, finalWeights,
 use Rattle.lines.specs.Sheet.{metering, stack, sampling, lines}
 use Rattle.certs.specs.declared.Lookup.the-variants.{Nothing}
 use Rattle.certs.specs.declared.Chosen.{Chosen}
-use Rattle.certs.specs.Comparing.{holds, distance}
+use Rattle.certs.specs.Comparing.{holds, apart}
 use Rattle.certs.specs.Factor.{factorOf, coefficientOf, diametersOf}
-use Rattle.findings.specs.Grounds.{broken}
-use Rattle.findings.specs.Rules.{missing, moved, uneven, diameter, halfDiameter, undisturbed, minimumPoints, nextGrid, nextAllowed, judged, ofKind, certificateGrounds, siteGrounds, fieldGrounds, lineGrounds, weighingGrounds, groundOf, placesOf}
-use Rattle.findings.specs.Listing.{brokenAt, ruleFindings, findingsTo, findings, linesFor, findingsFor, most}
+use Rattle.rules.specs.Grounds.{broken}
+use Rattle.rules.specs.Rules.{missing, moved, uneven, diameter, halfDiameter, undisturbed, minimumPoints, nextAllowed, short, leaking, lineAgainst, unsteady, grounds, groundOf, placesOf}
+use Rattle.findings.specs.Listing.{partOf, ofKind, besideOf, brokenAt, ruleFindings, findingsTo, findings, linesFor, findingsFor, mostFindings}
 
 point : Point
-point = record { seconds = 1; head = 0; orifice = 0; stack = pos 0; inlet = pos 0; outlet = pos 0 }
+point = record { seconds = leastSeconds; head = 0; orifice = 0; stack = pos 0; inlet = pos 0; outlet = pos 0 }
 
 segment : Segment
 segment = record { seconds = 4; leak = 1 }
 
 -- a filter that lost weight, and whose two final weights are 0.6 mg apart
 filter : Weighing
-filter = record { kind = 1; tare = 7; first = 0; second = 6 }
+filter = record { kind = filterKind; tare = 7; first = 0; second = 6 }
 
 someone : Identity
 someone = record { maker = record { first = 65; second = 65; third = 65 }; serial = 1 }
 
--- a small rectangle close to two disturbances, no gas metered, 64 points of a second each
+-- a small rectangle close to two disturbances, no gas metered, as many points of a second each as a run can have
 fullRun : Run
 fullRun =
     record {
-      number = 1;
-      day = 0;
-      meter = someone;
-      pitot = someone;
-      nozzle = someone;
-      pb = 2000;
-      pg = pos 0;
-      co2 = 0;
-      o2 = 0;
-      first = 0;
-      last = 0;
-      water = 0;
-      site = record { shape = 2; first = 1; second = 1; next = 0; last = 0 };
-      acetone = record { residue = 0; blank = 1; rinse = 0; density = 5000 };
-      counts = record { points = 64; segments = 16; weighings = 8 };
-      points = replicate 64 point;
-      segments = replicate 16 segment;
-      weighings = replicate 8 filter;
+      header =
+          record {
+            number = leastRunNumber;
+            day = 0;
+            meter = someone;
+            pitot = someone;
+            nozzle = someone;
+            pb = leastBarometer;
+            pg = pos 0;
+            co2 = 0;
+            o2 = 0;
+            first = 0;
+            last = 0;
+            water = 0;
+            site = record { shape = rectangularShape; first = leastSide; second = leastSide; next = 0; last = 0 };
+            acetone = record { residue = 0; blank = leastBlankVolume; rinse = 0; density = leastAcetoneDensity };
+            counts = record { points = greatestPointCount; segments = greatestSegmentCount; weighings = greatestWeighingCount };
+          };
+      points = replicate greatestPointCount point;
+      segments = replicate greatestSegmentCount segment;
+      weighings = replicate greatestWeighingCount filter;
     }
 
 noCertificates : Chosen
@@ -68,34 +72,38 @@ full-in-range : RunOk fullRun
 unfolding fullRun point segment filter within signedWithin sumTo
 full-in-range =
     record {
-      number = refl;
-      pb = refl;
-      pg = refl;
-      co2 = refl;
-      o2 = refl;
-      first = refl;
-      last = refl;
-      water = refl;
-      site = record { shape = refl; first = refl; second = refl };
-      acetone = record { blank = refl; rinse = refl; density = refl };
-      countOfPoints = refl;
-      countOfSegments = refl;
-      countOfWeighings = refl;
+      header =
+          record {
+            number = refl;
+            pb = refl;
+            pg = refl;
+            co2 = refl;
+            o2 = refl;
+            first = refl;
+            last = refl;
+            water = refl;
+            site = record { shape = refl; first = refl; second = refl };
+            acetone = record { blank = refl; rinse = refl; density = refl };
+            points = refl;
+            segments = refl;
+            weighings = refl;
+          };
       points = λ i inside.
-          rw (getD-replicate 64 i point noPoint inside)
+          rw (getD-replicate greatestPointCount i point noPoint inside)
           (record { seconds = refl; head = refl; orifice = refl; stack = refl; inlet = refl; outlet = refl });
-      segments = λ i inside. rw (getD-replicate 16 i segment noSegment inside) (record { seconds = refl; leak = refl });
+      segments = λ i inside.
+          rw (getD-replicate greatestSegmentCount i segment noSegment inside) (record { seconds = refl; leak = refl });
       weighings = λ i inside.
-          rw (getD-replicate 8 i filter noWeighing inside)
+          rw (getD-replicate greatestWeighingCount i filter noWeighing inside)
           (record { kind = refl; tare = refl; first = refl; second = refl });
       total = refl;
       balanced = refl;
     }
 
-full-findings : length (findingsFor fullRun noCertificates) ≡ most
-unfolding fullRun point segment filter noCertificates findingsFor linesFor findings findingsTo ruleFindings brokenAt broken groundOf placesOf certificateGrounds siteGrounds fieldGrounds lineGrounds weighingGrounds missing moved uneven diameter halfDiameter undisturbed minimumPoints nextGrid nextAllowed judged ofKind holds distance factorOf coefficientOf diametersOf lines metering stack sampling time meteredVolume allowance leakLoss leakLosses correctedVolume dryVolume moisture wetWeight densityRoot velocity drawnGas isokinetic finalWeights tares catch deduction roundDiv unlessZero sumTo
+full-findings : length (findingsFor fullRun noCertificates) ≡ mostFindings
+unfolding fullRun point segment filter noCertificates findingsFor linesFor findings findingsTo ruleFindings brokenAt broken partOf besideOf grounds groundOf placesOf missing moved uneven diameter halfDiameter undisturbed minimumPoints nextOf nextGrid nextAllowed short leaking lineAgainst unsteady ofKind holds apart factorOf coefficientOf diametersOf lines metering stack sampling time meteredVolume allowance leakLoss leakLosses correctedVolume dryVolume moisture wetWeight densityRoot velocity drawnGas isokinetic finalWeights tares catch deduction roundDiv unlessZero sumTo
 full-findings = refl
 
 -- Some run in range has 98
-pub reached : (r : Run) × (ch : Chosen) × (RunOk r × (length (findingsFor r ch) ≡ most))
+pub reached : (r : Run) × (ch : Chosen) × (RunOk r × (length (findingsFor r ch) ≡ mostFindings))
 reached = (fullRun, noCertificates, (full-in-range, full-findings))

@@ -10,13 +10,13 @@ use native.Mathlib.Omega.{arith}
 use borrow.Author.Tests.{eqb-true}
 use lib.Dec.{eqb}
 use lib.ListN.{length, getD}
-use Rattle.readings.specs.Ranges.{oneOf}
+use Rattle.readings.specs.Grids.{oneOf}
 use Rattle.records.specs.declared.Counts.{Counts}
 use Rattle.records.specs.declared.Run.{Run}
 use Rattle.lines.specs.declared.Lines.{Lines}
 use Rattle.certs.specs.declared.Chosen.{Chosen}
 use Rattle.findings.specs.declared.Finding.{Finding}
-use Rattle.findings.specs.Rules.{placesOf, placeOf, classOf}
+use Rattle.rules.specs.Rules.{ruleCount, placesOf, placeAt, fault, note, classOf}
 use Rattle.findings.specs.Listing.{brokenAt, findingAt, ruleFindings, findingsTo, findings, noFinding, Precedes}
 use Rattle.findings.proofs.Members.{at-index, OfRule, OfRules, rule-members, all-members}
 
@@ -44,8 +44,8 @@ whole-run false true c p s w e = absurd (true≢false e)
 whole-run false false true p s w e = absurd (true≢false e)
 whole-run false false false p s w e = refl
 
-place-rising : (n : Counts) (rule i j : ℕ) → i < j → j < placesOf n rule → placeOf rule i < placeOf rule j
-unfolding placesOf placeOf
+place-rising : (n : Counts) (rule i j : ℕ) → i < j → j < placesOf n rule → placeAt rule i < placeAt rule j
+unfolding placesOf placeAt
 place-rising n rule i j l inside = go (oneOf (10 ∷ 11 ∷ 17 ∷ []) rule) refl
   where
     go : (t : Bool) → oneOf (10 ∷ 11 ∷ 17 ∷ []) rule ≡ t → cond t (i + 1) 0 < cond t (j + 1) 0
@@ -100,7 +100,7 @@ sorted-at (f ∷ fs) s (suc i) (suc j) l inside = sorted-at fs (s .1) i j (le-of
 -- The list is in order: by rule, and then by place
 pub in-order : (r : Run) (ch : Chosen) (l : Lines) (i j : ℕ) → i < j → j < length (findings r ch l) → Precedes (getD (findings r ch l) i noFinding) (getD (findings r ch l) j noFinding)
 unfolding findings
-in-order r ch l i j = sorted-at (findings r ch l) (all-sorted (r .counts) (brokenAt r ch l) 20) i j
+in-order r ch l i j = sorted-at (findings r ch l) (all-sorted (r .header .counts) (brokenAt r ch l) ruleCount) i j
 
 not-before-itself : (a b : Finding) → Precedes a b → a .rule ≡ b .rule → a .place ≡ b .place → ⊥
 not-before-itself a b (inl lower) rule place = omega arith
@@ -118,24 +118,24 @@ each-once r ch l i j i-in j-in rule place = go (decLt i j) (decLt j i)
     go (no first) (yes higher) = absurd (not-before-itself (at j) (at i) (in-order r ch l j i higher i-in) (sym rule) (sym place))
     go (no first) (no second) = omega arith
 
--- the class of a rule is 2 for 5 and 11
-note-exactly : (rule : ℕ) → (classOf rule ≡ 2) ↔ ((rule ≡ 5) ⊎ (rule ≡ 11))
+-- the class of a rule is that of notes for 5 and 11
+note-exactly : (rule : ℕ) → (classOf rule ≡ note) ↔ ((rule ≡ 5) ⊎ (rule ≡ 11))
 unfolding classOf
 note-exactly rule = (notes (eqb rule 5) (eqb rule 11) refl refl, is-note)
   where
-    notes : (a b : Bool) → eqb rule 5 ≡ a → eqb rule 11 ≡ b → _≡_ {A = ℕ} (cond (a || (b || false)) 2 1) 2 → (rule ≡ 5) ⊎ (rule ≡ 11)
+    notes : (a b : Bool) → eqb rule 5 ≡ a → eqb rule 11 ≡ b → _≡_ {A = ℕ} (cond (a || (b || false)) note fault) note → (rule ≡ 5) ⊎ (rule ≡ 11)
     notes true b e d is = inl (eqb-true _ _ e)
     notes false true e d is = inr (eqb-true _ _ d)
     notes false false e d is = absurd (omega arith)
 
-    is-note : (rule ≡ 5) ⊎ (rule ≡ 11) → classOf rule ≡ 2
+    is-note : (rule ≡ 5) ⊎ (rule ≡ 11) → classOf rule ≡ note
     is-note (inl e) = rw e
     is-note (inr e) = rw e
 
 -- Notes are 5 and 11; the rest are faults
-pub class-exactly : (r : Run) (ch : Chosen) (l : Lines) (i : ℕ) → i < length (findings r ch l) → (getD (findings r ch l) i noFinding .class ≡ 2) ↔ ((getD (findings r ch l) i noFinding .rule ≡ 5) ⊎ (getD (findings r ch l) i noFinding .rule ≡ 11))
+pub class-exactly : (r : Run) (ch : Chosen) (l : Lines) (i : ℕ) → i < length (findings r ch l) → (getD (findings r ch l) i noFinding .class ≡ note) ↔ ((getD (findings r ch l) i noFinding .rule ≡ 5) ⊎ (getD (findings r ch l) i noFinding .rule ≡ 11))
 unfolding findings findingAt
 class-exactly r ch l i inside =
-    let o : OfRules (brokenAt r ch l) (placesOf (r .counts)) 20 (getD (findings r ch l) i noFinding) =
-    all-members (brokenAt r ch l) (placesOf (r .counts)) 20 (at-index (findings r ch l) i inside) in
+    let o : OfRules (brokenAt r ch l) (placesOf (r .header .counts)) ruleCount (getD (findings r ch l) i noFinding) =
+    all-members (brokenAt r ch l) (placesOf (r .header .counts)) ruleCount (at-index (findings r ch l) i inside) in
     rw (o .of .is) (note-exactly (o .rule))

@@ -1,6 +1,2 @@
--- The twenty rules, what breaks them, and the list of a run's findings.
-pub mod Grounds
-pub mod Rules
-pub mod Parts
+-- The list of a run's findings.
 pub mod Listing
-pub mod Starred

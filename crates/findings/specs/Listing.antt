@@ -6,24 +6,57 @@ use mathlib.Core.List.{List, [], _∷_, _++_}
 use mathlib.Core.Logic.{_⊎_}
 use lib.Dec.{eqb}
 use lib.ListN.{length, getD, replicate}
+use Rattle.readings.specs.Ranges.{filterKind, rinseKind}
+use Rattle.records.specs.declared.Weighing.{Weighing}
 use Rattle.records.specs.declared.Run.{Run}
+use Rattle.records.specs.Records.{noWeighing, pointOf, segmentOf, weighingOf, sumTo}
 use Rattle.records.specs.InRange.{RunOk}
 use Rattle.lines.specs.declared.Lines.{Lines}
 use Rattle.lines.specs.Sheet.{lines}
 use Rattle.certs.specs.declared.Chosen.{Chosen}
 use Rattle.certs.specs.Factor.{factorOf, coefficientOf, diametersOf}
+use Rattle.rules.specs.declared.Part.{Part}
+use Rattle.rules.specs.declared.Part.the-variants.{Whole, OnePoint, OneSegment, OneWeighing}
+use Rattle.rules.specs.declared.Beside.{Beside}
+use Rattle.rules.specs.Grounds.{broken}
+use Rattle.rules.specs.Rules.{minimumPoints, ruleCount, groundOf, placesOf, placeAt, fault, classOf}
 use Rattle.findings.specs.declared.Finding.{Finding}
 use Rattle.findings.specs.declared.Findings.{Findings}
-use Rattle.findings.specs.Grounds.{broken}
-use Rattle.findings.specs.Rules.{groundOf, placesOf, placeOf, classOf}
 
--- a rule is broken at its place i, counted from 0
+-- what a rule looks at, at its place i, counted from 0: 10 a point, 11 a segment, 17 a weighing, and the others the whole run
+unfoldable pub partOf : Run → ℕ → ℕ → Part
+partOf r rule i =
+    cond (eqb rule 10) (OnePoint (pointOf r i))
+    (cond (eqb rule 11) (OneSegment (segmentOf r i)) (cond (eqb rule 17) (OneWeighing (weighingOf r i)) Whole))
+
+-- one where a weighing is of that kind, and otherwise nothing
+abbrev pub oneOfKind : ℕ → Weighing → ℕ
+oneOfKind kind w = cond (eqb (w .kind) kind) 1 0
+
+-- how many of the first n weighings are of that kind
+unfoldable pub ofKind : ℕ → List Weighing → ℕ → ℕ
+ofKind kind weighings n = sumTo (λ i. oneOfKind kind (getD weighings i noWeighing)) n
+
+-- what the rules may see of a run beside their part
+unfoldable pub besideOf : Run → Chosen → Lines → Beside
+besideOf r ch l =
+    record {
+      chosen = ch;
+      lines = l;
+      site = r .header .site;
+      counts = r .header .counts;
+      filters = ofKind filterKind (r .weighings) (r .header .counts .weighings);
+      rinses = ofKind rinseKind (r .weighings) (r .header .counts .weighings);
+      least = minimumPoints (r .header .site);
+    }
+
+-- a rule is broken at its place i
 unfoldable pub brokenAt : Run → Chosen → Lines → ℕ → ℕ → Bool
-brokenAt r ch l rule i = broken (groundOf r ch l rule i)
+brokenAt r ch l rule i = broken (groundOf (partOf r rule i) (besideOf r ch l) rule)
 
 -- the finding of a rule at its place i
 unfoldable pub findingAt : ℕ → ℕ → Finding
-findingAt rule i = record { rule = rule; class = classOf rule; place = placeOf rule i }
+findingAt rule i = record { rule = rule; class = classOf rule; place = placeAt rule i }
 
 -- a rule's findings at its first n places, by place
 unfoldable pub ruleFindings : (ℕ → Bool) → ℕ → ℕ → List Finding
@@ -38,16 +71,16 @@ findingsTo isBroken places (suc k) =
 
 -- The findings of a run
 unfoldable pub findings : Run → Chosen → Lines → List Finding
-findings r ch l = findingsTo (brokenAt r ch l) (placesOf (r .counts)) 20
+findings r ch l = findingsTo (brokenAt r ch l) (placesOf (r .header .counts)) ruleCount
 
 -- no finding is a fault
 unfoldable pub accepted : List Finding → Bool
 accepted [] = true
-accepted (f ∷ fs) = not (eqb (f .class) 1) && accepted fs
+accepted (f ∷ fs) = not (eqb (f .class) fault) && accepted fs
 
 -- the most findings that a run can have
-abbrev pub most : ℕ
-most = 98
+abbrev pub mostFindings : ℕ
+mostFindings = 98
 
 -- what stands behind the last finding
 abbrev pub noFinding : Finding
@@ -55,7 +88,7 @@ noFinding = record { rule = 0; class = 0; place = 0 }
 
 -- a list of findings as it is handed over: how many, and zeros behind them
 unfoldable pub listed : List Finding → Findings
-listed fs = record { count = length fs; list = fs ++ replicate (most - length fs) noFinding }
+listed fs = record { count = length fs; list = fs ++ replicate (mostFindings - length fs) noFinding }
 
 -- the lines of a run with its chosen certificates, and the findings that those lines give
 unfoldable pub linesFor : Run → Chosen → Lines
@@ -74,14 +107,14 @@ pub record Worked (r : Run) (ch : Chosen) (l : Lines) : Type 0 where
 -- a run breaks a rule at a place: one of the twenty rules, at one of its places
 pub record Breaks (r : Run) (ch : Chosen) (l : Lines) (rule place : ℕ) : Type 0 where
   pub first : 1 ≤ rule
-  pub last : rule ≤ 20
+  pub last : rule ≤ ruleCount
   pub index : ℕ
-  pub inside : index < placesOf (r .counts) rule
-  pub there : place ≡ placeOf rule index
+  pub inside : index < placesOf (r .header .counts) rule
+  pub there : place ≡ placeAt rule index
   pub broken : brokenAt r ch l rule index ≡ true
 
 -- a list holds a finding of that rule at that place
-pub record Holds (fs : List Finding) (rule place : ℕ) : Type 0 where
+pub record HasFinding (fs : List Finding) (rule place : ℕ) : Type 0 where
   pub index : ℕ
   pub inside : index < length fs
   pub same : (getD fs index noFinding .rule ≡ rule) × (getD fs index noFinding .place ≡ place)

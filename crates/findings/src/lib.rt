@@ -1,27 +1,21 @@
 // A run's findings: every rule at each of its places, in order, kept where it is broken.
-// Relies on the chosen certificates, on what each line is promised to be, and on a run that is in range.
+// Relies on the table of the rules, on the chosen certificates, on what each line is promised to be, and on a run that is in range.
 
-pub mod certificates;
-pub mod field;
-pub mod ground;
-pub mod rules;
-pub mod sheet;
-pub mod site;
 pub mod weighings;
 
 use certs::Chosen;
 use lines::Lines;
-use records::Counts;
+use readings::weighings::WeighingKind;
 use records::Run;
-use records::Site;
-use records::Weighing;
+use rules::Beside;
 use rules::Part;
+use rules::site::minimum_points;
+use weighings::of_kind;
 ghost use mathlib.Core.Path.{_≡_};
 ghost use Prim.Native.Nat.{_≤_};
 ghost use lib.ListN.{take};
-ghost use Rattle.findings.specs.Grounds.{broken};
-ghost use Rattle.findings.specs.Parts.{partGround, Judged};
-ghost use Rattle.findings.specs.Listing.{findingAt, findings, listed, accepted, Worked};
+ghost use Rattle.readings.specs.Ranges.{greatestWeighingCount};
+ghost use Rattle.findings.specs.Listing.{besideOf, findingAt, findings, mostFindings, listed, accepted, Worked};
 
 // A broken rule: its number, its class and the place.
 pub struct Finding {
@@ -30,35 +24,33 @@ pub struct Finding {
     pub place: u16,
 }
 
-impl Finding {
-    pub const FAULT: u8 = 1;
-
-    pub const NOTE: u8 = 2;
-}
-
 // The most findings that a run can have.
-pub const MOST: usize = 98;
+pub const MOST_FINDINGS: usize = 98;
 
 // A run's findings in order, and behind them nothing but zeros.
 pub struct Findings {
     pub count: usize,
-    pub list: [Finding; MOST],
+    pub list: [Finding; MOST_FINDINGS],
 }
 
-// Whether a rule is broken, by the part that it looks at.
-fn broken_on(
-    part: Part,
-    site: Site,
-    counts: Counts,
-    weighings: [Weighing; 8],
-    chosen: Chosen,
-    lines: Lines,
-    rule: u8,
-) -> bool
-    requires { ⌜ Judged part counts lines rule ⌝ }
-    ensures { λ r. ⌜ r ≡ broken (partGround part site counts weighings chosen lines rule) ⌝ }
+// What the rules may see of a run beside the part that each looks at.
+fn beside_of(run: Run, chosen: Chosen, lines: Lines) -> Beside
+    requires { ⌜ run .header .counts .weighings ≤ greatestWeighingCount ⌝ }
+    ensures { λ r. ⌜ r ≡ besideOf run chosen lines ⌝ }
 {
-    rules::ground_of(part, site, counts, weighings, chosen, lines, rule).broken()
+    let header = run.header;
+    let site = header.site;
+    let counts = header.counts;
+    let weighings = run.weighings;
+    Beside {
+        chosen: chosen,
+        lines: lines,
+        site: site,
+        counts: counts,
+        filters: of_kind(WeighingKind::FILTER, weighings, counts.weighings),
+        rinses: of_kind(WeighingKind::RINSE, weighings, counts.weighings),
+        least: minimum_points(site),
+    }
 }
 
 // The finding of a rule at one of its places, counted from 0.
@@ -77,28 +69,30 @@ pub fn find(run: Run, chosen: Chosen, lines: Lines) -> Findings
     requires { ⌜ Worked run chosen lines ⌝ }
     ensures { λ r. ⌜ r ≡ listed (findings run chosen lines) ⌝ }
 {
+    let header = run.header;
     let points = run.points;
     let segments = run.segments;
     let weighings = run.weighings;
+    let beside = beside_of(run, chosen, lines);
     let mut list = [Finding {
         rule: 0,
         class: 0,
         place: 0,
-    }; MOST];
+    }; MOST_FINDINGS];
     let mut count: usize = 0;
     let mut done: u8 = 0;
     while done < rules::RULES {
         let rule = done + 1;
-        let places = rules::places(run.counts, rule);
+        let places = rules::places(header.counts, rule);
         let mut i: u8 = 0;
         while i < places {
             let part = match rule {
-                10 => Part::Point(points[i as usize]),
-                11 => Part::Segment(segments[i as usize]),
-                17 => Part::Weighing(weighings[i as usize]),
+                10 => Part::OnePoint(points[i as usize]),
+                11 => Part::OneSegment(segments[i as usize]),
+                17 => Part::OneWeighing(weighings[i as usize]),
                 _ => Part::Whole,
             };
-            if broken_on(part, run.site, run.counts, weighings, chosen, lines, rule) {
+            if rules::ground_of(part, beside, rule).broken() {
                 list[count] = finding_at(rule, i);
                 count += 1;
             }
@@ -114,7 +108,7 @@ pub fn find(run: Run, chosen: Chosen, lines: Lines) -> Findings
 
 // Whether no finding is a fault.
 pub fn accepted(found: Findings) -> bool
-    requires { ⌜ found .count ≤ 98 ⌝ }
+    requires { ⌜ found .count ≤ mostFindings ⌝ }
     ensures { λ r. ⌜ r ≡ accepted (take (found .count) (found .list)) ⌝ }
 {
     let list = found.list;
@@ -122,7 +116,7 @@ pub fn accepted(found: Findings) -> bool
     let mut i: usize = 0;
     while i < count {
         let f = list[i];
-        if f.class == Finding::FAULT {
+        if f.class == rules::FAULT {
             return false;
         }
         i += 1;

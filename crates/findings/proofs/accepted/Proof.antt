@@ -4,6 +4,7 @@ use mathlib.Core.Path.{_≡_}
 use native.Mathlib.Omega.{arith}
 use borrow.Author.Count.{below-none, below-more}
 use lib.ListN.{getD}
+use Rattle.rules.specs.Rules.{fault}
 use Rattle.findings.specs.Listing.{noFinding}
 use Rattle.findings.proofs.Accepting.{fault-void, notes-accepted}
 use Rattle.findings.proofs.accepted.Statement.{statement}
@@ -11,7 +12,7 @@ use Rattle.findings.proofs.accepted.Tie as tie
 
 abbrev Inv-loop : tie.InvT-loop
 Inv-loop list count i₀ i =
-    (i ≤ count) × ((k : ℕ) → k < i → getD list k noFinding .class ≡ 1 → ⊥)
+    (i ≤ count) × ((k : ℕ) → k < i → getD list k noFinding .class ≡ fault → ⊥)
 
 abbrev μ-loop : tie.MeasureT-loop
 μ-loop list count i₀ i = count - i

@@ -1,38 +1,54 @@
--- `find` is `findings`. The outer invariant: the findings of the rules done stand in the list; the inner: also those of the places passed.
-use Prim.Native.Nat.{_+_, _-_, _≤_, _<_}
+-- `find` is `findings`. The outer invariant: the findings of the rules done are entered in the list; the inner: also those of the places passed.
+-- The loops see the run's header and lists and what stands beside them; what they find is the run's, with its certificates and lines.
+use Prim.Native.Nat.{ℕ, _+_, _-_, _≤_, _<_}
 use mathlib.Core.Path.{_≡_, _∙_}
-use mathlib.Core.List.{_++_}
+use mathlib.Core.Bool.{Bool}
+use mathlib.Core.List.{List, _++_}
 use mathlib.Core.Logic.{⊎-elim}
 use borrow.Author.Needs.{needs}
 use native.Mathlib.Omega.{arith}
-use Rattle.findings.specs.Rules.{placesOf}
-use Rattle.findings.specs.Listing.{brokenAt, findings, findingsTo, ruleFindings}
-use Rattle.findings.proofs.Filling.{Stands, stands-none, stands-first, stands-room, stands-found, stands-passed, stands-rule, stands-listed, rule-none}
-use Rattle.findings.proofs.Parts.{partOf, part-point, part-segment, part-weighing, part-whole, part-broken}
-use Rattle.findings.proofs.InRange.{point-in, segment-in, weighing-in, judged}
-use Rattle.findings.proofs.Most.{all-fit}
+use lib.ListN.{length}
+use Rattle.records.specs.declared.Point.{Point}
+use Rattle.records.specs.declared.Segment.{Segment}
+use Rattle.records.specs.declared.Weighing.{Weighing}
+use Rattle.records.specs.declared.RunHeader.{RunHeader}
+use Rattle.rules.specs.declared.Beside.{Beside}
+use Rattle.rules.specs.Grounds.{broken}
+use Rattle.rules.specs.Rules.{ruleCount, groundOf, placesOf}
+use Rattle.findings.specs.Listing.{partOf, brokenAt, findings, findingsTo, ruleFindings, mostFindings}
+use Rattle.findings.proofs.Filling.{Entered, entered-none, entered-first, entered-room, entered-found, entered-passed, entered-rule, entered-listed, rule-none}
+use Rattle.findings.proofs.Places.{part-point, part-segment, part-weighing, part-whole}
+use Rattle.findings.proofs.InRange.{point-in, segment-in, weighing-in, weighings-in, judgeable}
+use Rattle.findings.proofs.Most.{all-fit-beside}
 use Rattle.findings.proofs.find.Statement.{statement}
 use Rattle.findings.proofs.find.Tie as tie
 
+-- whether a rule is broken at its place i, by what the loops see
+abbrev brokenIn : RunHeader → List Point → List Segment → List Weighing → Beside → ℕ → ℕ → Bool
+brokenIn header points segments weighings beside rule i =
+    broken (groundOf (partOf (record { header = header; points = points; segments = segments; weighings = weighings }) rule i) beside rule)
+
 abbrev Inv-loop2 : tie.InvT-loop2
-Inv-loop2 run chosen lines points segments weighings list₀ count₀ done rule places i₀ list count i =
+Inv-loop2 header points segments weighings beside list₀ count₀ done rule places i₀ list count i =
     (i ≤ places)
-    × Stands (findingsTo (brokenAt run chosen lines) (placesOf (run .counts)) done ++ ruleFindings (brokenAt run chosen lines (done + 1)) (done + 1) i) count list
+    × Entered (findingsTo (brokenIn header points segments weighings beside) (placesOf (header .counts)) done ++ ruleFindings (brokenIn header points segments weighings beside (done + 1)) (done + 1) i) count list
 
 abbrev μ-loop2 : tie.MeasureT-loop2
-μ-loop2 run chosen lines points segments weighings list₀ count₀ done rule places i₀ list count i = places - i
+μ-loop2 header points segments weighings beside list₀ count₀ done rule places i₀ list count i = places - i
 
 abbrev Inv-loop : tie.InvT-loop
-Inv-loop run chosen lines points segments weighings list₀ count₀ done₀ list count done =
-    (done ≤ 20) × Stands (findingsTo (brokenAt run chosen lines) (placesOf (run .counts)) done) count list
+Inv-loop header points segments weighings beside list₀ count₀ done₀ list count done =
+    (done ≤ ruleCount)
+    × Entered (findingsTo (brokenIn header points segments weighings beside) (placesOf (header .counts)) done) count list
 
 abbrev μ-loop : tie.MeasureT-loop
-μ-loop run chosen lines points segments weighings list₀ count₀ done₀ list count done = 20 - done
+μ-loop header points segments weighings beside list₀ count₀ done₀ list count done = ruleCount - done
+
+beside-of-requires : tie.Need-beside-of-requires Inv-loop2 μ-loop2 Inv-loop μ-loop
+beside-of-requires c κs = weighings-in _ _ _ (c .before .before .before .before .pre)
 
 loop-holds : tie.Need-loop-holds Inv-loop2 μ-loop2 Inv-loop μ-loop
-loop-holds c =
-    let start = c .before .before .before in
-    (omega arith, rw (rule-none (brokenAt (start .args .run) (start .args .chosen) (start .args .lines)) (placesOf (start .args .run .counts))) stands-none)
+loop-holds c = (omega arith, rw (rule-none _ _) entered-none)
 
 add-rule : tie.Need-add-rule Inv-loop2 μ-loop2 Inv-loop μ-loop
 add-rule c = omega arith
@@ -41,47 +57,70 @@ places-requires : tie.Need-places-requires Inv-loop2 μ-loop2 Inv-loop μ-loop
 places-requires c κs = search needs
 
 loop2-holds : tie.Need-loop2-holds Inv-loop2 μ-loop2 Inv-loop μ-loop
-loop2-holds c = (omega arith, stands-first _ _ _ (c .before .before .loop .inv .1))
+loop2-holds c = (omega arith, entered-first _ _ _ (c .before .before .loop .inv .1))
 
--- a turn of the inner loop is at one of the twenty rules and one of its places
-rule-in : (c : tie.In-loop2 Inv-loop2 μ-loop2 Inv-loop μ-loop) → c .before .before .before .before .loop .done < 20
-rule-in c = omega (arith, c .before .before .before .loop-test .taken)
+cast-t20 : tie.Need-cast-t20 Inv-loop2 μ-loop2 Inv-loop μ-loop
+cast-t20 c = omega arith
 
-place-in : (c : tie.In-loop2 Inv-loop2 μ-loop2 Inv-loop μ-loop) → c .before .loop2 .i < placesOf (c .before .before .before .before .before .before .before .before .args .run .counts) (c .before .before .before .before .loop .done + 1)
-place-in c = rw (c .before .before .places .ensures) at (c .loop2-test .taken)
+mul-t21 : tie.Need-mul-t21 Inv-loop2 μ-loop2 Inv-loop μ-loop
+mul-t21 c = omega arith
 
-cast-t18 : tie.Need-cast-t18 Inv-loop2 μ-loop2 Inv-loop μ-loop
-cast-t18 c = omega arith
+cast-t25 : tie.Need-cast-t25 Inv-loop2 μ-loop2 Inv-loop μ-loop
+cast-t25 c = omega arith
 
-mul-t19 : tie.Need-mul-t19 Inv-loop2 μ-loop2 Inv-loop μ-loop
-mul-t19 c = omega arith
+mul-t26 : tie.Need-mul-t26 Inv-loop2 μ-loop2 Inv-loop μ-loop
+mul-t26 c = omega arith
 
-array-copy-out-t22 : tie.Need-array-copy-out-t22 Inv-loop2 μ-loop2 Inv-loop μ-loop
-array-copy-out-t22 c =
-    point-in _ _ _ (c .before .before .before .before .before .before .before .before .before .pre) (c .match .keys1) (place-in (c .before))
+cast-t30 : tie.Need-cast-t30 Inv-loop2 μ-loop2 Inv-loop μ-loop
+cast-t30 c = omega arith
 
-cast-t23 : tie.Need-cast-t23 Inv-loop2 μ-loop2 Inv-loop μ-loop
-cast-t23 c = omega arith
+mul-t31 : tie.Need-mul-t31 Inv-loop2 μ-loop2 Inv-loop μ-loop
+mul-t31 c = omega arith
 
-mul-t24 : tie.Need-mul-t24 Inv-loop2 μ-loop2 Inv-loop μ-loop
-mul-t24 c = omega arith
+-- where the loops begin: what stands beside is made; and a turn of the inner loop
+abbrev Begun : Type 0
+Begun = tie.After-beside-of Inv-loop2 μ-loop2 Inv-loop μ-loop
 
-array-copy-out-t27 : tie.Need-array-copy-out-t27 Inv-loop2 μ-loop2 Inv-loop μ-loop
-array-copy-out-t27 c =
-    segment-in _ _ _ (c .before .before .before .before .before .before .before .before .before .pre) (c .match .keys2) (place-in (c .before))
+abbrev Turn : Type 0
+Turn = tie.In-loop2 Inv-loop2 μ-loop2 Inv-loop μ-loop
 
-cast-t28 : tie.Need-cast-t28 Inv-loop2 μ-loop2 Inv-loop μ-loop
-cast-t28 c = omega arith
+abbrev start : Begun → tie.Start Inv-loop2 μ-loop2 Inv-loop μ-loop
+start b = b .before .before .before .before .before
 
-mul-t29 : tie.Need-mul-t29 Inv-loop2 μ-loop2 Inv-loop μ-loop
-mul-t29 c = omega arith
+abbrev begun : Turn → Begun
+begun t = t .before .before .before .before .before
 
-array-copy-out-t32 : tie.Need-array-copy-out-t32 Inv-loop2 μ-loop2 Inv-loop μ-loop
-array-copy-out-t32 c =
-    weighing-in _ _ _ (c .before .before .before .before .before .before .before .before .before .pre) (c .match .keys3) (place-in (c .before))
+-- the rules done before a turn, and the places of its rule passed
+abbrev done : Turn → ℕ
+done t = t .before .before .before .before .loop .done
+
+abbrev passed : Turn → ℕ
+passed t = t .before .loop2 .i
+
+-- whether a rule of the run is broken at its place i
+abbrev isBroken : Begun → ℕ → ℕ → Bool
+isBroken b rule i = broken (groundOf (partOf (start b .args .run) rule i) (b .beside-of .result) rule)
+
+fits : (b : Begun) → length (findingsTo (isBroken b) (placesOf (start b .args .run .header .counts)) ruleCount) ≤ mostFindings
+fits b = all-fit-beside _ _ _ (start b .pre) (b .beside-of .ensures)
+
+rule-in : (t : Turn) → done t < ruleCount
+rule-in t = omega (arith, t .before .before .before .loop-test .taken)
+
+place-in : (t : Turn) → passed t < placesOf (start (begun t) .args .run .header .counts) (done t + 1)
+place-in t = rw (t .before .before .places .ensures) at (t .loop2-test .taken)
+
+array-copy-out-t24 : tie.Need-array-copy-out-t24 Inv-loop2 μ-loop2 Inv-loop μ-loop
+array-copy-out-t24 c = point-in _ _ _ (start (begun (c .before)) .pre) (c .match .keys1) (place-in (c .before))
+
+array-copy-out-t29 : tie.Need-array-copy-out-t29 Inv-loop2 μ-loop2 Inv-loop μ-loop
+array-copy-out-t29 c = segment-in _ _ _ (start (begun (c .before)) .pre) (c .match .keys2) (place-in (c .before))
+
+array-copy-out-t34 : tie.Need-array-copy-out-t34 Inv-loop2 μ-loop2 Inv-loop μ-loop
+array-copy-out-t34 c = weighing-in _ _ _ (start (begun (c .before)) .pre) (c .match .keys3) (place-in (c .before))
 
 -- the part that the rule looks at
-part-is : (c : tie.At-match-came Inv-loop2 μ-loop2 Inv-loop μ-loop) → c .match .part ≡ partOf (c .before .before .before .before .before .before .before .before .before .args .run) (c .before .before .before .before .before .loop .done + 1) (c .before .before .loop2 .i)
+part-is : (c : tie.At-match-came Inv-loop2 μ-loop2 Inv-loop μ-loop) → c .match .part ≡ partOf (start (begun (c .before)) .args .run) (done (c .before) + 1) (passed (c .before))
 part-is c =
     ⊎-elim (λ w. w .2 ∙ part-point _ _ (w .0 .keys1))
     (⊎-elim (λ w. w .2 ∙ part-segment _ _ (w .0 .keys2))
@@ -89,26 +128,27 @@ part-is c =
     (λ w. w .1 ∙ part-whole _ _ (w .0 .rest .0 .0 .1) (w .0 .rest .0 .1) (w .0 .rest .1))))
     (c .match .came)
 
-broken-on-requires : tie.Need-broken-on-requires Inv-loop2 μ-loop2 Inv-loop μ-loop
-broken-on-requires c κs =
-    let start = c .before .before .before .before .before .before .before .before .before in
-    judged _ (start .args .chosen) _ (start .pre) _ _ (omega arith) (omega (arith, rule-in (c .before))) (part-is c)
+ground-of-requires : tie.Need-ground-of-requires Inv-loop2 μ-loop2 Inv-loop μ-loop
+ground-of-requires c κs =
+    let b = begun (c .before) in
+    judgeable _ _ _ (start b .pre) (omega arith) (omega (arith, rule-in (c .before))) (b .beside-of .ensures)
+
+broken-requires : tie.Need-broken-requires Inv-loop2 μ-loop2 Inv-loop μ-loop
+broken-requires c κs = search needs
 
 -- the test is whether the rule is broken there
-test-is : (c : tie.After-broken-on Inv-loop2 μ-loop2 Inv-loop μ-loop) → c .broken-on .result ≡ brokenAt (c .before .before .before .before .before .before .before .before .before .before .args .run) (c .before .before .before .before .before .before .before .before .before .before .args .chosen) (c .before .before .before .before .before .before .before .before .before .before .args .lines) (c .before .before .before .before .before .before .loop .done + 1) (c .before .before .before .loop2 .i)
-test-is c = part-broken _ _ _ _ _ (part-is (c .before)) (c .broken-on .ensures)
-
--- a broken rule finds room
-has-room : (c : tie.After-finding-at Inv-loop2 μ-loop2 Inv-loop μ-loop) → c .before .before .before .before .before .loop2 .count < 98
-has-room c =
-    let turn = c .before .before .before .before in
-    let start = turn .before .before .before .before .before .before .before .before in
-    let all = all-fit _ _ _ (start .pre) in
-    stands-room _ _ _ _ all (rule-in turn) (place-in turn) (test-is (c .before .before)) (c .before .if1 .taken)
-    (turn .before .loop2 .inv .1)
+test-is : (c : tie.After-broken Inv-loop2 μ-loop2 Inv-loop μ-loop) → c .broken .result ≡ isBroken (begun (c .before .before .before)) (done (c .before .before .before) + 1) (passed (c .before .before .before))
+test-is c = rw (← part-is (c .before .before), ← c .before .ground-of .ensures) (c .broken .ensures)
 
 finding-at-requires : tie.Need-finding-at-requires Inv-loop2 μ-loop2 Inv-loop μ-loop
 finding-at-requires c κs = search needs
+
+-- a broken rule finds room
+has-room : (c : tie.After-finding-at Inv-loop2 μ-loop2 Inv-loop μ-loop) → c .before .before .before .before .before .before .loop2 .count < mostFindings
+has-room c =
+    let turn = c .before .before .before .before .before in
+    entered-room _ _ _ _ (fits (begun turn)) (rule-in turn) (place-in turn) (test-is (c .before .before)) (c .before .if1 .taken)
+    (turn .before .loop2 .inv .1)
 
 mul-list : tie.Need-mul-list Inv-loop2 μ-loop2 Inv-loop μ-loop
 mul-list c = omega (arith, has-room c)
@@ -127,18 +167,17 @@ loop2-less c = omega arith
 
 loop2-again : tie.Need-loop2-again Inv-loop2 μ-loop2 Inv-loop μ-loop
 loop2-again c =
-    let turn = c .before .before .before in
-    let start = turn .before .before .before .before .before .before .before .before in
-    let all = all-fit _ _ _ (start .pre) in
+    let turn = c .before .before .before .before in
+    let all = fits (begun turn) in
     let test = test-is (c .before) in
     let so-far = turn .before .loop2 .inv .1 in
     ⊎-elim
     (λ w. (
       omega arith,
       rw (w .2, w .3)
-          (stands-found _ _ _ _ all (rule-in turn) (place-in turn) test (w .0 .taken) (w .1 .ensures) so-far),
+          (entered-found _ _ _ _ all (rule-in turn) (place-in turn) test (w .0 .taken) (w .1 .ensures) so-far),
     ))
-    (λ w. (omega arith, rw (w .1, w .2) (stands-passed _ _ _ _ test (w .0 .left) so-far)))
+    (λ w. (omega arith, rw (w .1, w .2) (entered-passed _ _ _ _ test (w .0 .left) so-far)))
     (c .if1 .came)
 
 loop-less : tie.Need-loop-less Inv-loop2 μ-loop2 Inv-loop μ-loop
@@ -147,13 +186,13 @@ loop-less c = omega arith
 loop-again : tie.Need-loop-again Inv-loop2 μ-loop2 Inv-loop μ-loop
 loop-again c =
     let all : c .before .loop2 .i ≡ c .before .before .places .result = omega arith in
-    (omega arith, stands-rule _ _ _ _ (all ∙ c .before .before .places .ensures) (c .before .loop2 .inv .1))
+    (omega arith, entered-rule _ _ _ _ (all ∙ c .before .before .places .ensures) (c .before .loop2 .inv .1))
 
 returns : tie.Need-returns Inv-loop2 μ-loop2 Inv-loop μ-loop
-unfolding findings
+unfolding findings brokenAt
 returns c =
-    let end : c .before .loop .done ≡ 20 = omega arith in
-    stands-listed (rw end at (c .before .loop .inv .1))
+    let end : c .before .loop .done ≡ ruleCount = omega arith in
+    entered-listed (rw (end, c .before .before .beside-of .ensures) at (c .before .loop .inv .1))
 
 pub find-spec : {M : Type 1} → statement M
 find-spec =
@@ -163,20 +202,22 @@ find-spec =
     μ-loop2
     Inv-loop
     μ-loop
+    beside-of-requires
     loop-holds
     add-rule
     places-requires
     loop2-holds
-    cast-t18
-    mul-t19
-    array-copy-out-t22
-    cast-t23
-    mul-t24
-    array-copy-out-t27
-    cast-t28
-    mul-t29
-    array-copy-out-t32
-    broken-on-requires
+    cast-t20
+    mul-t21
+    array-copy-out-t24
+    cast-t25
+    mul-t26
+    array-copy-out-t29
+    cast-t30
+    mul-t31
+    array-copy-out-t34
+    ground-of-requires
+    broken-requires
     finding-at-requires
     mul-list
     array-set-from-list

@@ -3,7 +3,7 @@ use Prim.Native.Nat.{_≤_, _-_}
 use mathlib.Core.Path.{_≡_, _∙_}
 use mathlib.Core.Logic.{⊎-elim}
 use native.Mathlib.Omega.{arith}
-use Rattle.findings.specs.Rules.{ofKind}
+use Rattle.findings.specs.Listing.{ofKind}
 use Rattle.findings.proofs.Counted.{kind-none, kind-counted, kind-passed}
 use Rattle.findings.proofs.weighings.of_kind.Statement.{statement}
 use Rattle.findings.proofs.weighings.of_kind.Tie as tie

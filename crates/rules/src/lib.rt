@@ -1,0 +1,138 @@
+// The twenty rules: what each goes by, from the part that it looks at and from what it may see beside it.
+// Relies on the chosen certificates and on what each line is promised to be. No rule takes a run or an array.
+
+pub mod certificates;
+pub mod field;
+pub mod grounds;
+pub mod sheet;
+pub mod site;
+pub mod weighings;
+
+use certificates::missing;
+use certificates::moved;
+use certificates::uneven;
+use certs::Chosen;
+use certs::comparison::Way;
+use field::leaking;
+use field::short;
+use grounds::Ground;
+use lines::Lines;
+use lines::Value;
+use records::Counts;
+use records::Point;
+use records::Segment;
+use records::Site;
+use records::Weighing;
+use sheet::Isokinetic;
+use sheet::line_against;
+use site::disturbed;
+use site::narrow;
+use site::wrong_points;
+use weighings::lacking;
+use weighings::negative;
+use weighings::unsteady;
+ghost use mathlib.Core.Path.{_≡_};
+ghost use Rattle.rules.specs.Rules.{groundOf, placesOf, placeAt, classOf, Judgeable};
+
+// How many rules there are.
+pub const RULES: u8 = 20;
+
+// The classes of findings.
+pub const FAULT: u8 = 1;
+
+pub const NOTE: u8 = 2;
+
+// What a rule looks at: one of the run's points, segments or weighings, or the run as a whole.
+pub enum Part {
+    Whole,
+    OnePoint(Point),
+    OneSegment(Segment),
+    OneWeighing(Weighing),
+}
+
+// What a rule may see beside its part: the chosen certificates, the lines, the site, the counts, how many filters and
+// rinses there are, and the least number of points, the number and not how it came about.
+pub struct Beside {
+    pub chosen: Chosen,
+    pub lines: Lines,
+    pub site: Site,
+    pub counts: Counts,
+    pub filters: u64,
+    pub rinses: u64,
+    pub least: u64,
+}
+
+// The table: what a rule goes by, of its part and of what stands beside it.
+pub fn ground_of(part: Part, beside: Beside, rule: u8) -> Ground
+    requires { ⌜ Judgeable beside rule ⌝ }
+    ensures { λ r. ⌜ r ≡ groundOf part beside rule ⌝ }
+{
+    let chosen = beside.chosen;
+    let before = chosen.before;
+    let after = chosen.after;
+    let pitot = chosen.pitot;
+    let nozzle = chosen.nozzle;
+    let lines = beside.lines;
+    let metering = lines.metering;
+    let dry = metering.dry;
+    let stack = lines.stack;
+    let velocity = stack.velocity;
+    let sampling = lines.sampling;
+    let isokinetic = sampling.isokinetic;
+    match rule {
+        1 => missing(before),
+        2 => missing(pitot),
+        3 => missing(nozzle),
+        4 => missing(after),
+        5 => moved(before, after),
+        6 => uneven(nozzle),
+        7 => narrow(beside.site),
+        8 => disturbed(beside.site),
+        9 => wrong_points(beside.site.shape, beside.least, beside.counts.points),
+        10 => short(part),
+        11 => leaking(metering.time, metering.volume, part),
+        12 => line_against(Value::Known(metering.corrected), Way::Same, 0),
+        13 => line_against(dry, Way::Same, 0),
+        14 => line_against(velocity, Way::Same, 0),
+        15 => line_against(isokinetic, Way::Below, Isokinetic::LEAST),
+        16 => line_against(isokinetic, Way::Above, Isokinetic::GREATEST),
+        17 => unsteady(part),
+        18 => lacking(beside.filters),
+        19 => lacking(beside.rinses),
+        _ => negative(sampling.catch),
+    }
+}
+
+// Of how many places a rule speaks: points, segments or weighings, and otherwise the whole run.
+pub fn places(counts: Counts, rule: u8) -> u8
+    ensures { λ r. ⌜ r ≡ placesOf counts rule ⌝ }
+{
+    match rule {
+        10 => counts.points,
+        11 => counts.segments,
+        17 => counts.weighings,
+        _ => 1,
+    }
+}
+
+// The place of a finding: points, segments and weighings from 1, and 0 for the whole run.
+pub fn place(rule: u8, i: u8) -> u16
+    ensures { λ r. ⌜ r ≡ placeAt rule i ⌝ }
+{
+    match rule {
+        10 => i as u16 + 1,
+        11 => i as u16 + 1,
+        17 => i as u16 + 1,
+        _ => 0,
+    }
+}
+
+// A finding's class: 5 and 11 are notes, the rest faults.
+pub fn class(rule: u8) -> u8
+    ensures { λ r. ⌜ r ≡ classOf rule ⌝ }
+{
+    match rule {
+        5 | 11 => NOTE,
+        _ => FAULT,
+    }
+}
