@@ -9,8 +9,8 @@ use Rattle.records.specs.declared.Certificate.{Certificate}
 use Rattle.records.specs.declared.Identity.{Identity}
 use Rattle.records.specs.declared.RunHeader.{RunHeader}
 use Rattle.records.specs.InRange.{NozzleOk, CertificateOk}
-use Rattle.lines.specs.declared.Value.the-variants.{Known, Missing}
-use Rattle.lines.specs.Promise.{Between, DiametersOk}
+use Rattle.values.specs.declared.Value.the-variants.{Known, Missing}
+use Rattle.values.specs.Promise.{Between, DiametersOk}
 use Rattle.certs.specs.declared.Lookup.{Lookup}
 use Rattle.certs.specs.declared.Lookup.the-variants.{Found, Nothing}
 use Rattle.certs.specs.declared.Chosen.{Chosen}

@@ -1,10 +1,10 @@
 -- What the chosen certificates give the lines.
 use Prim.Native.Nat.{ℕ, _*_, min}
 use mathlib.Core.Bool.{cond}
-use Rattle.lines.specs.declared.Value.{Value}
-use Rattle.lines.specs.declared.Value.the-variants.{Known, Missing}
-use Rattle.lines.specs.declared.Diameters.{Diameters}
-use Rattle.lines.specs.declared.Diameters.the-variants.{Measured, Unknown}
+use Rattle.values.specs.declared.Value.{Value}
+use Rattle.values.specs.declared.Value.the-variants.{Known, Missing}
+use Rattle.values.specs.declared.Diameters.{Diameters}
+use Rattle.values.specs.declared.Diameters.the-variants.{Measured, Unknown}
 use Rattle.certs.specs.declared.Lookup.{Lookup}
 use Rattle.certs.specs.declared.Lookup.the-variants.{Found, Nothing}
 use Rattle.certs.specs.declared.Chosen.{Chosen}

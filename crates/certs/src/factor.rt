@@ -5,8 +5,8 @@ use crate::Lookup;
 use crate::comparison;
 use crate::comparison::Comparison;
 use crate::comparison::Way;
-use lines::Diameters;
-use lines::Value;
+use values::Diameters;
+use values::Value;
 ghost use mathlib.Core.Path.{_≡_};
 ghost use Rattle.certs.specs.Factor.{factorMoved, factor, factorOf, coefficientOf, diametersOf};
 

@@ -3,14 +3,17 @@ use Prim.Native.Nat.{ℕ}
 use mathlib.Core.Path.{_≡_, refl}
 use borrow.Author.Tests.{eq-eqb}
 use Rattle.records.specs.declared.Run.{Run}
-use Rattle.lines.specs.declared.Value.{Value}
-use Rattle.lines.specs.declared.Value.the-variants.{Known, Missing}
+use Rattle.values.specs.declared.Value.{Value}
+use Rattle.values.specs.declared.Value.the-variants.{Known, Missing}
 use Rattle.lines.specs.declared.Lines.{Lines}
-use Rattle.lines.specs.Promise.{unlessZero}
-use Rattle.lines.specs.Metering.{dryVolume, moisture}
-use Rattle.lines.specs.Stack.{wetWeight, densityRoot, velocity}
-use Rattle.lines.specs.Sampling.{isokinetic}
-use Rattle.lines.specs.Sheet.{metering, stack, sampling, lines}
+use Rattle.values.specs.Promise.{unlessZero}
+use Rattle.metering.specs.Metering.{dryVolume, moisture}
+use Rattle.stack.specs.Stack.{wetWeight, densityRoot, velocity}
+use Rattle.sampling.specs.Sampling.{isokinetic}
+use Rattle.metering.specs.Metering.{metering}
+use Rattle.stack.specs.Stack.{stack}
+use Rattle.sampling.specs.Sampling.{sampling}
+use Rattle.lines.specs.Sheet.{lines}
 use Rattle.certs.specs.declared.Chosen.{Chosen}
 use Rattle.certs.specs.Factor.{factorOf, coefficientOf}
 use Rattle.findings.specs.Listing.{linesFor}

@@ -7,8 +7,9 @@ use Rattle.readings.specs.Ranges.{greatestAboveFirst, greatestPointCount, great
 use Rattle.readings.proofs.Ranges.{within-greatest}
 use Rattle.records.specs.declared.Run.{Run}
 use Rattle.lines.specs.declared.Lines.{Lines}
-use Rattle.lines.specs.Metering.{time, meteredVolume}
-use Rattle.lines.specs.Sheet.{metering, lines}
+use Rattle.metering.specs.Metering.{time, meteredVolume}
+use Rattle.metering.specs.Metering.{metering}
+use Rattle.lines.specs.Sheet.{lines}
 use Rattle.certs.specs.declared.Chosen.{Chosen}
 use Rattle.rules.specs.declared.Beside.{Beside}
 use Rattle.rules.specs.Rules.{ruleCount, Judgeable, placesOf}

@@ -15,8 +15,8 @@ use Rattle.records.specs.declared.Weighing.{Weighing}
 use Rattle.records.specs.declared.Run.{Run}
 use Rattle.records.specs.Records.{noWeighing, sumTo}
 use Rattle.records.specs.InRange.{RunOk}
-use Rattle.lines.specs.declared.Value.{Value}
-use Rattle.lines.specs.declared.Value.the-variants.{Known, Missing}
+use Rattle.values.specs.declared.Value.{Value}
+use Rattle.values.specs.declared.Value.the-variants.{Known, Missing}
 use Rattle.lines.specs.declared.Lines.{Lines}
 use Rattle.certs.specs.declared.Lookup.{Lookup}
 use Rattle.certs.specs.declared.Lookup.the-variants.{Found, Nothing}

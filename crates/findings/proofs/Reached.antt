@@ -12,11 +12,14 @@ use Rattle.records.specs.declared.Run.{Run}
 use Rattle.records.specs.Records.{noPoint, noSegment, noWeighing, sumTo}
 use Rattle.records.specs.InRange.{RunOk}
 use Rattle.arith.specs.Rounding.{roundDiv}
-use Rattle.lines.specs.Promise.{unlessZero}
-use Rattle.lines.specs.Metering.{time, meteredVolume, allowance, leakLoss, leakLosses, correctedVolume, dryVolume, moisture}
-use Rattle.lines.specs.Stack.{wetWeight, densityRoot, velocity}
-use Rattle.lines.specs.Sampling.{drawnGas, isokinetic, deduction, finalWeights, tares, catch}
-use Rattle.lines.specs.Sheet.{metering, stack, sampling, lines}
+use Rattle.values.specs.Promise.{unlessZero}
+use Rattle.metering.specs.Metering.{time, meteredVolume, allowance, leakLoss, leakLosses, correctedVolume, dryVolume, moisture}
+use Rattle.stack.specs.Stack.{wetWeight, densityRoot, velocity}
+use Rattle.sampling.specs.Sampling.{drawnGas, isokinetic, deduction, finalWeights, tares, catch}
+use Rattle.metering.specs.Metering.{metering}
+use Rattle.stack.specs.Stack.{stack}
+use Rattle.sampling.specs.Sampling.{sampling}
+use Rattle.lines.specs.Sheet.{lines}
 use Rattle.certs.specs.declared.Lookup.the-variants.{Nothing}
 use Rattle.certs.specs.declared.Chosen.{Chosen}
 use Rattle.certs.specs.Comparing.{holds, apart}

@@ -6,12 +6,13 @@ use mathlib.Core.Logic.{_↔_}
 use native.Mathlib.Omega.{arith}
 use borrow.Author.Tests.{eq-eqb, eqb-true}
 use Rattle.records.specs.declared.Run.{Run}
-use Rattle.lines.specs.declared.Value.{Value}
-use Rattle.lines.specs.declared.Value.the-variants.{Known, Missing}
+use Rattle.values.specs.declared.Value.{Value}
+use Rattle.values.specs.declared.Value.the-variants.{Known, Missing}
 use Rattle.lines.specs.declared.Lines.{Lines}
-use Rattle.lines.specs.Promise.{unlessZero}
-use Rattle.lines.specs.Metering.{dryVolume}
-use Rattle.lines.specs.Sheet.{metering, lines}
+use Rattle.values.specs.Promise.{unlessZero}
+use Rattle.metering.specs.Metering.{dryVolume}
+use Rattle.metering.specs.Metering.{metering}
+use Rattle.lines.specs.Sheet.{lines}
 use Rattle.certs.specs.declared.Chosen.{Chosen}
 use Rattle.certs.specs.declared.comparison.Way.the-variants.{Same}
 use Rattle.certs.specs.Comparing.{holds}

@@ -4,11 +4,15 @@ use Rattle.arith.specs.Root.{grown, floorRoot, nearestRoot}
 use Rattle.arith.specs.Rounding.{roundDiv}
 use Rattle.readings.specs.Ranges.{within, signedWithin}
 use Rattle.records.specs.Records.{sameIdentity, sumTo}
-use Rattle.lines.specs.Metering.{time, meteredVolume, allowance, leakLoss, leakLosses, correctedVolume, meanOrifice, meterPressure, meterTemperature, dryVolume, waterVapor, moisture}
-use Rattle.lines.specs.Promise.{unlessZero, addScaled}
-use Rattle.lines.specs.Sampling.{nozzleArea, drawnGas, isokinetic, deduction, finalWeights, tares, catch, concentration}
-use Rattle.lines.specs.Sheet.{metering, stack, sampling, lines, sheet}
-use Rattle.lines.specs.Stack.{dryWeight, wetWeight, stackPressure, stackTemperature, pointRoot, meanRoot, densityRoot, velocity}
+use Rattle.metering.specs.Metering.{time, meteredVolume, allowance, leakLoss, leakLosses, correctedVolume, meanOrifice, meterPressure, meterTemperature, dryVolume, waterVapor, moisture}
+use Rattle.values.specs.Promise.{unlessZero}
+use Rattle.values.specs.Signed.{addScaled}
+use Rattle.sampling.specs.Sampling.{nozzleArea, drawnGas, isokinetic, deduction, finalWeights, tares, catch, concentration}
+use Rattle.metering.specs.Metering.{metering}
+use Rattle.stack.specs.Stack.{stack}
+use Rattle.sampling.specs.Sampling.{sampling}
+use Rattle.lines.specs.Sheet.{lines, sheet}
+use Rattle.stack.specs.Stack.{dryWeight, wetWeight, stackPressure, stackTemperature, pointRoot, meanRoot, densityRoot, velocity}
 use Rattle.certs.specs.Choosing.{eligible, keep, chosen, chosenFor}
 use Rattle.certs.specs.Comparing.{holds, distance}
 use Rattle.certs.specs.Factor.{factorMoved, factor, factorOf, coefficientOf, diametersOf}

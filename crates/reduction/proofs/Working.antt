@@ -7,11 +7,11 @@ use lib.ListN.{length, take, replicate}
 use lib.Seq.{take-append-seam}
 use Rattle.records.specs.declared.Certificate.{Certificate}
 use Rattle.records.specs.declared.Run.{Run}
-use Rattle.lines.specs.declared.Diameters.{Diameters}
+use Rattle.values.specs.declared.Diameters.{Diameters}
 use Rattle.lines.specs.declared.Lines.{Lines}
 use Rattle.lines.specs.declared.Sheet.{Sheet}
-use Rattle.lines.specs.declared.Value.{Value}
-use Rattle.lines.specs.XXX
+use Rattle.values.specs.declared.Value.{Value}
+use Rattle.lines.specs.Promise.{RunWithValues}
 use Rattle.lines.specs.Sheet.{lines, sheet}
 use Rattle.certs.specs.declared.Chosen.{Chosen}
 use Rattle.certs.specs.Choosing.{chosenFor}

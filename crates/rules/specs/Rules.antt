@@ -10,9 +10,9 @@ use Rattle.readings.specs.Ranges.{greatestAboveFirst, roundShape, greatestTotal
 use Rattle.readings.specs.Grids.{oneOf, nextGrid}
 use Rattle.records.specs.declared.Site.{Site}
 use Rattle.records.specs.declared.Counts.{Counts}
-use Rattle.lines.specs.declared.Value.{Value}
-use Rattle.lines.specs.declared.Value.the-variants.{Known, Missing}
-use Rattle.lines.specs.Metering.{allowance}
+use Rattle.values.specs.declared.Value.{Value}
+use Rattle.values.specs.declared.Value.the-variants.{Known, Missing}
+use Rattle.metering.specs.Metering.{allowance}
 use Rattle.certs.specs.declared.Lookup.{Lookup}
 use Rattle.certs.specs.declared.Lookup.the-variants.{Found, Nothing}
 use Rattle.certs.specs.declared.comparison.Way.{Way}

@@ -4,7 +4,7 @@ use mathlib.Core.Path.{_≡_}
 use mathlib.Core.Bool.{Bool, true, false}
 use mathlib.Core.List.{List, [], _∷_}
 use Rattle.records.specs.declared.Certificate.{Certificate}
-use Rattle.lines.specs.declared.Value.the-variants.{Known}
+use Rattle.values.specs.declared.Value.the-variants.{Known}
 use Rattle.certs.specs.declared.Lookup.the-variants.{Found}
 use Rattle.certs.specs.Factor.{factorOf}
 use Rattle.rules.specs.declared.Part.{Part}

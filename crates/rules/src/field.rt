@@ -4,7 +4,7 @@ use crate::Part;
 use crate::grounds::Ground;
 use certs::comparison::Comparison;
 use certs::comparison::Way;
-use lines::volumes::allowance;
+use metering::allowance;
 ghost use mathlib.Core.Path.{_≡_};
 ghost use Prim.Native.Nat.{_≤_};
 ghost use Rattle.readings.specs.Ranges.{greatestAboveFirst, greatestTotalSeconds};

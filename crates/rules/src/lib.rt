@@ -17,7 +17,7 @@ use field::leaking;
 use field::short;
 use grounds::Ground;
 use lines::Lines;
-use lines::Value;
+use values::Value;
 use records::Counts;
 use records::Point;
 use records::Segment;

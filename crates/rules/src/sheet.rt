@@ -3,7 +3,7 @@
 use crate::grounds::Ground;
 use certs::comparison::Comparison;
 use certs::comparison::Way;
-use lines::Value;
+use values::Value;
 ghost use mathlib.Core.Path.{_≡_};
 ghost use Rattle.rules.specs.Rules.{lineAgainst};
 
