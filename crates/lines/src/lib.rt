@@ -20,6 +20,7 @@ pub enum Line {
     Absent,
 }
 
+// A line in its place on the sheet.
 pub struct Entry {
     pub line: Line,
 }
