@@ -4,8 +4,8 @@ use mathlib.Core.Path.{_≡_, refl}
 use mathlib.Core.List.{List, [], _∷_, _++_}
 use native.Mathlib.Nat.{sub-zero}
 use native.Mathlib.Omega.{arith}
-use lib.ListN.{length, replicate, set, length-append}
-use lib.Seq.{set-append-seam, append-snoc}
+use lib.ListN.{length, replicate, set, take, length-append}
+use lib.Seq.{set-append-seam, append-snoc, take-append-seam}
 use Rattle.arrays.specs.Arrays.{filledTo}
 
 -- the array holds xs, and `next` is the first place behind it
@@ -30,3 +30,8 @@ filled-more {A} {size} {none} {xs} {next} {array} a f room =
       count = omega (arith, f .count);
       holds = rw (f .holds, f .count, here, behind, append-snoc xs a (replicate k none)) (set-append-seam xs none (replicate k none) a);
     }
+
+-- the list is the array's front
+pub filled-front : {A : Type 0} (size : ℕ) (none : A) (xs : List A) → take (length xs) (filledTo size none xs) ≡ xs
+unfolding filledTo
+filled-front size none xs = take-append-seam xs (replicate (size - length xs) none)

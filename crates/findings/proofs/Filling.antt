@@ -1,41 +1,26 @@
 -- Filling the list: one finding more, one place more, one rule more, and room for each.
-use Prim.Native.Nat.{ℕ, zero, suc, _+_, _-_, _≤_, _<_}
-use mathlib.Core.Path.{_≡_, refl, sym, _∙_, ap}
+use Prim.Native.Nat.{ℕ, zero, suc, _+_, _≤_, _<_}
+use mathlib.Core.Path.{_≡_, refl, _∙_, ap}
 use mathlib.Core.Bool.{Bool, true, false, cond}
 use mathlib.Core.List.{List, [], _∷_, _++_, append-assoc, append-nil}
 use mathlib.Core.Logic.{_⊎_, inl, inr}
 use native.Mathlib.Nat.{le-refl, le-trans, lt-of-lt-of-le, le-of-suc-le-suc, not-suc-le-zero, eq-or-lt-of-le}
 use native.Mathlib.Numerals.{add-one}
 use native.Mathlib.Omega.{arith}
-use lib.ListN.{length, replicate, set, length-append}
-use lib.Seq.{set-at, append-snoc}
+use lib.ListN.{length, set, length-append}
+use Rattle.arrays.proofs.Filled.{Filled, filled-more}
 use Rattle.rules.specs.Rules.{ruleCount}
 use Rattle.findings.specs.declared.Finding.{Finding}
 use Rattle.findings.specs.declared.Findings.{Findings}
 use Rattle.findings.specs.Listing.{findingAt, ruleFindings, findingsTo, mostFindings, noFinding, listed}
 
--- the findings fs are entered in the array xs, n of them, and zeros behind them
-pub record Entered (fs : List Finding) (n : ℕ) (xs : List Finding) : Type 0 where
-  pub count : n ≡ length fs
-  pub list : xs ≡ fs ++ replicate (mostFindings - length fs) noFinding
-
-pub entered-none : Entered [] 0 (replicate mostFindings noFinding)
-entered-none = record { count = refl; list = refl }
-
-pub entered-more : (fs : List Finding) (f : Finding) {n : ℕ} {xs : List Finding} → Entered fs n xs → length fs < mostFindings → Entered (fs ++ (f ∷ [])) (n + 1) (set xs n f)
-entered-more fs f {n} {xs} s room =
-    let longer : length (fs ++ (f ∷ [])) ≡ length fs + 1 = length-append fs (f ∷ []) in
-    let k : ℕ = mostFindings - suc (length fs) in
-    let here : mostFindings - length fs ≡ suc k = omega arith in
-    let behind : mostFindings - length (fs ++ (f ∷ [])) ≡ k = omega arith in
-    record {
-      count = omega (arith, s .count);
-      list = rw (s .list, here, behind, append-snoc) (set-at fs noFinding (replicate k noFinding) f n (sym (s .count)));
-    }
+-- the findings fs are entered in the array xs, n of them
+abbrev pub Entered : List Finding → ℕ → List Finding → Type 0
+Entered fs n xs = Filled mostFindings noFinding fs n xs
 
 pub entered-listed : {fs : List Finding} {n : ℕ} {xs : List Finding} → Entered fs n xs → _≡_ {A = Findings} (record { count = n; list = xs }) (listed fs)
 unfolding listed
-entered-listed s = λ i. record { count = s .count i; list = s .list i }
+entered-listed s = λ i. record { count = s .count i; list = s .holds i }
 
 -- a number that never falls from one step to the next
 pub rising : (f : ℕ → ℕ) → ((i : ℕ) → f i ≤ f (suc i)) → (i j : ℕ) → i ≤ j → f i ≤ f j
@@ -106,7 +91,7 @@ module _ (isBroken : ℕ → ℕ → Bool) (places : ℕ → ℕ) where
   pub entered-found : (k i : ℕ) {n : ℕ} {xs : List Finding} {test : Bool} {f : Finding} → length (findingsTo isBroken places ruleCount) ≤ mostFindings → k < ruleCount → i < places (k + 1) → test ≡ isBroken (k + 1) i → test ≡ true → f ≡ findingAt (k + 1) i → Entered (findingsTo isBroken places k ++ ruleFindings (isBroken (k + 1)) (k + 1) i) n xs → Entered (findingsTo isBroken places k ++ ruleFindings (isBroken (k + 1)) (k + 1) (i + 1)) (n + 1) (set xs n f)
   entered-found k i within rule-in place-in t e is s =
       rw (found-more (k + 1) i t e, is, ← append-assoc)
-      (entered-more _ (findingAt (k + 1) i) s (lt-of-lt-of-le (room k i rule-in place-in t e) within))
+      (filled-more (findingAt (k + 1) i) s (entered-room k i within rule-in place-in t e s))
 
   pub entered-passed : (k i : ℕ) {n : ℕ} {xs : List Finding} {test : Bool} → test ≡ isBroken (k + 1) i → test ≡ false → Entered (findingsTo isBroken places k ++ ruleFindings (isBroken (k + 1)) (k + 1) i) n xs → Entered (findingsTo isBroken places k ++ ruleFindings (isBroken (k + 1)) (k + 1) (i + 1)) n xs
   entered-passed k i t e s = rw (found-passed (k + 1) i t e) s

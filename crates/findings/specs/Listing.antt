@@ -5,8 +5,9 @@ use mathlib.Core.Bool.{Bool, true, cond, not, _&&_}
 use mathlib.Core.List.{List, [], _∷_, _++_}
 use mathlib.Core.Logic.{_⊎_}
 use lib.Dec.{eqb}
-use lib.ListN.{length, getD, replicate}
+use lib.ListN.{length, getD}
 use Rattle.readings.specs.Ranges.{filterKind, rinseKind}
+use Rattle.arrays.specs.Arrays.{filledTo}
 use Rattle.records.specs.declared.Weighing.{Weighing}
 use Rattle.records.specs.declared.Run.{Run}
 use Rattle.records.specs.Records.{noWeighing, pointOf, segmentOf, weighingOf, sumTo}
@@ -88,7 +89,7 @@ noFinding = record { rule = 0; class = 0; place = 0 }
 
 -- a list of findings as it is handed over: how many, and zeros behind them
 unfoldable pub listed : List Finding → Findings
-listed fs = record { count = length fs; list = fs ++ replicate (mostFindings - length fs) noFinding }
+listed fs = record { count = length fs; list = filledTo mostFindings noFinding fs }
 
 -- the lines of a run with its chosen certificates, and the findings that those lines give
 unfoldable pub linesFor : Run → Chosen → Lines

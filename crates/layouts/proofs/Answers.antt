@@ -7,8 +7,8 @@ use native.Mathlib.Omega.{arith}
 use borrow.Author.Tests.{le-leb, lt-leb, leb-true}
 use lib.Dec.{leb}
 use lib.ListN.{length, take, replicate, length-append}
-use lib.Seq.{take-at}
 use Rattle.arrays.specs.Arrays.{filledTo}
+use Rattle.arrays.proofs.Filled.{filled-front}
 use Rattle.output.specs.declared.Answer.{Answer}
 use Rattle.output.specs.declared.Answer.the-variants.{Done, Refused}
 use Rattle.output.specs.Splice.{spliced}
@@ -47,5 +47,4 @@ module _ {ds : List ℕ} {l : Layout} (h : IsLayout ds l) (long : length (l .dis
       omega (arith, h .count)
 
   pub held-front : take (l .count) (l .distances) ≡ ds
-  unfolding filledTo
-  held-front = rw (h .distances) (take-at ds (replicate (mostDistances - length ds) 0) (l .count) (sym (h .count)))
+  held-front = rw (h .distances, h .count) (filled-front mostDistances 0 ds)

@@ -25,7 +25,10 @@ pub struct Entry {
     pub line: Line,
 }
 
+// How many lines a sheet has.
+pub const LINES: usize = 20;
+
 // A run's sheet: lines 1 to 20 in order.
 pub struct Sheet {
-    pub entries: [Entry; 20],
+    pub entries: [Entry; LINES],
 }

@@ -1,10 +1,10 @@
 -- A run worked with what was chosen for it, put together.
-use Prim.Native.Nat.{ℕ, _-_}
+use Prim.Native.Nat.{ℕ}
 use mathlib.Core.Path.{_≡_, _∙_, subst⁻¹}
 use mathlib.Core.Bool.{Bool}
 use mathlib.Core.List.{List}
-use lib.ListN.{length, take, replicate}
-use lib.Seq.{take-append-seam}
+use lib.ListN.{take}
+use Rattle.arrays.proofs.Filled.{filled-front}
 use Rattle.records.specs.declared.Certificate.{Certificate}
 use Rattle.records.specs.declared.Run.{Run}
 use Rattle.values.specs.declared.Diameters.{Diameters}
@@ -44,8 +44,8 @@ lines-worked r ch ey ecp en el = el ∙ rw (ey, ecp, en)
 -- as many findings as the list holds
 pub listed-count : (fs : List Finding) → take (listed fs .count) (listed fs .list) ≡ fs
 unfolding listed
-listed-count fs = take-append-seam fs (replicate (mostFindings - length fs) noFinding)
+listed-count fs = filled-front mostFindings noFinding fs
 
-pub is-reduction : (r : Run) {f : ℕ → Certificate} {n : ℕ} {ch : Chosen} {l : Lines} {found : Findings} {stands : Bool} {written : Sheet} → ch ≡ chosenFor f n (r .header) → l ≡ linesFor r ch → found ≡ listed (findings r ch l) → stands ≡ accepted (take (found .count) (found .list)) → written ≡ sheet l → _≡_ {A = Reduced} (record { number = r .header .number; accepted = stands; sheet = written; findings = found }) (reduction f n r)
+pub is-reduction : (f : ℕ → Certificate) (n : ℕ) (r : Run) {ch : Chosen} {l : Lines} {found : Findings} {stands : Bool} {written : Sheet} → ch ≡ chosenFor f n (r .header) → l ≡ linesFor r ch → found ≡ listed (findings r ch l) → stands ≡ accepted (take (found .count) (found .list)) → written ≡ sheet l → _≡_ {A = Reduced} (record { number = r .header .number; accepted = stands; sheet = written; findings = found }) (reduction f n r)
 unfolding reduction worked findingsFor
-is-reduction r {ch} ec el ef ea ew = rw (ew, ea, ef, listed-count, el, ec)
+is-reduction f n r {ch} ec el ef ea ew = rw (ew, ea, ef, listed-count, el, ec)

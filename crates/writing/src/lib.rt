@@ -3,11 +3,12 @@
 use findings::Finding;
 use findings::Findings;
 use lines::Entry;
+use lines::LINES;
 use lines::Line;
 use lines::Sheet;
-use output::signed_bits;
 use output::put_byte;
 use output::put_number;
+use output::signed_bits;
 ghost use mathlib.Core.Path.{_≡_};
 ghost use Prim.Native.Nat.{_+_, _*_, _≤_};
 ghost use lib.ListN.{length};
@@ -17,7 +18,7 @@ ghost use Rattle.writing.specs.Bytes.{lineSize, sheetSize, findingSize, 
 
 pub const LINE_SIZE: usize = 9;
 
-pub const SHEET_SIZE: usize = LINE_SIZE * Sheet::LINES;
+pub const SHEET_SIZE: usize = LINE_SIZE * LINES;
 
 pub const FINDING_SIZE: usize = 4;
 
@@ -43,7 +44,7 @@ pub fn put_sheet(out: &mut [u8], sheet: Sheet)
 {
     let entries = sheet.entries;
     let mut i: usize = 0;
-    while i < Sheet::LINES {
+    while i < LINES {
         put_entry(out, LINE_SIZE * i, entries[i]);
         i += 1;
     }

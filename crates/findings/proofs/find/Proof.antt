@@ -16,7 +16,8 @@ use Rattle.rules.specs.declared.Beside.{Beside}
 use Rattle.rules.specs.Grounds.{broken}
 use Rattle.rules.specs.Rules.{ruleCount, groundOf, placesOf}
 use Rattle.findings.specs.Listing.{partOf, brokenAt, findings, findingsTo, ruleFindings, mostFindings}
-use Rattle.findings.proofs.Filling.{Entered, entered-none, entered-first, entered-room, entered-found, entered-passed, entered-rule, entered-listed, rule-none}
+use Rattle.arrays.proofs.Filled.{filled-none}
+use Rattle.findings.proofs.Filling.{Entered, entered-first, entered-room, entered-found, entered-passed, entered-rule, entered-listed, rule-none}
 use Rattle.findings.proofs.Places.{part-point, part-segment, part-weighing, part-whole}
 use Rattle.findings.proofs.InRange.{point-in, segment-in, weighing-in, weighings-in, judgeable}
 use Rattle.findings.proofs.Most.{all-fit-beside}
@@ -48,7 +49,7 @@ beside-of-requires : tie.Need-beside-of-requires Inv-loop2 μ-loop2 Inv-loop μ-
 beside-of-requires c κs = weighings-in _ _ _ (c .before .before .before .before .pre)
 
 loop-holds : tie.Need-loop-holds Inv-loop2 μ-loop2 Inv-loop μ-loop
-loop-holds c = (omega arith, rw (rule-none _ _) entered-none)
+loop-holds c = (omega arith, rw (rule-none _ _) (filled-none _ _))
 
 add-rule : tie.Need-add-rule Inv-loop2 μ-loop2 Inv-loop μ-loop
 add-rule c = omega arith

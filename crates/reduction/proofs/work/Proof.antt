@@ -46,7 +46,7 @@ sheet-requires : tie.Need-sheet-requires
 sheet-requires c κs = search needs
 
 returns : tie.Need-returns
-returns c = is-reduction _ (c .before .before .before .before .before .before .before .choose-all .ensures) (worked-lines (c .before .before) .lines) (c .before .before .find .ensures) (c .before .accepted .ensures) (c .sheet .ensures)
+returns c = is-reduction _ _ _ (c .before .before .before .before .before .before .before .choose-all .ensures) (worked-lines (c .before .before) .lines) (c .before .before .find .ensures) (c .before .accepted .ensures) (c .sheet .ensures)
 
 pub work-spec : {M : Type 1} → statement M
 work-spec =
