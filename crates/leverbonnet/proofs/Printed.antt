@@ -16,9 +16,9 @@ use Rattle.stack.specs.Stack.{dryWeight, wetWeight, stackPressure, stackTempera
 use Rattle.certs.specs.Choosing.{eligible, keep, chosen, chosenFor}
 use Rattle.certs.specs.Comparing.{holds, distance}
 use Rattle.certs.specs.Factor.{factorMoved, factor, factorOf, coefficientOf, diametersOf}
-use Rattle.findings.specs.Grounds.{broken}
+use Rattle.rules.specs.Grounds.{broken}
 use Rattle.findings.specs.Listing.{brokenAt, findingAt, ruleFindings, findingsTo, findings, accepted, listed, linesFor, findingsFor}
-use Rattle.findings.specs.Rules.{missing, moved, uneven, diameter, halfDiameter, undisturbed, minimumPoints, nextGrid, nextAllowed, judged, ofKind, certificateGrounds, siteGrounds, fieldGrounds, lineGrounds, weighingGrounds, groundOf, placesOf, placeOf, classOf}
+use Rattle.rules.specs.Rules.{missing, moved, uneven, diameter, halfDiameter, undisturbed, minimumPoints, nextGrid, nextAllowed, judged, ofKind, certificateGrounds, siteGrounds, fieldGrounds, lineGrounds, weighingGrounds, groundOf, placesOf, placeAt, classOf}
 use Rattle.fields.specs.Numbers.{u16At, u32At, i16At}
 use Rattle.fields.specs.Trouble.{first, checks, upTo}
 use Rattle.arrays.specs.Arrays.{padded}
@@ -37,5 +37,5 @@ use Rattle.lines.specs.Starred.{workedLines}
 use Rattle.leverbonnet.specs.Starred.{PrintedJob}
 
 pub printed : PrintedJob
-unfolding grown floorRoot nearestRoot roundDiv within signedWithin sameIdentity sumTo time meteredVolume allowance leakLoss leakLosses correctedVolume meanOrifice meterPressure meterTemperature dryVolume waterVapor moisture unlessZero addScaled nozzleArea drawnGas isokinetic deduction finalWeights tares catch concentration metering stack sampling lines sheet dryWeight wetWeight stackPressure stackTemperature pointRoot meanRoot densityRoot velocity eligible keep chosen chosenFor holds distance factorMoved factor factorOf coefficientOf diametersOf broken brokenAt findingAt ruleFindings findingsTo findings accepted listed linesFor findingsFor missing moved uneven diameter halfDiameter undisturbed minimumPoints nextGrid nextAllowed judged ofKind certificateGrounds siteGrounds fieldGrounds lineGrounds weighingGrounds groundOf placesOf placeOf classOf u16At u32At i16At first checks upTo padded recordTrouble runAt runStart readJob anyTo partsTrouble runTrouble numberBefore jobTrouble worked chosenIn reducedRun runNamed packed le spliced entryBytes entriesBytes sheetBytes findingBytes findingsBytes handed outcome success answerOf linesAfter findingsAfter countAnswer numberAnswer workedLines
+unfolding grown floorRoot nearestRoot roundDiv within signedWithin sameIdentity sumTo time meteredVolume allowance leakLoss leakLosses correctedVolume meanOrifice meterPressure meterTemperature dryVolume waterVapor moisture unlessZero addScaled nozzleArea drawnGas isokinetic deduction finalWeights tares catch concentration metering stack sampling lines sheet dryWeight wetWeight stackPressure stackTemperature pointRoot meanRoot densityRoot velocity eligible keep chosen chosenFor holds distance factorMoved factor factorOf coefficientOf diametersOf broken brokenAt findingAt ruleFindings findingsTo findings accepted listed linesFor findingsFor missing moved uneven diameter halfDiameter undisturbed minimumPoints nextGrid nextAllowed judged ofKind certificateGrounds siteGrounds fieldGrounds lineGrounds weighingGrounds groundOf placesOf placeAt classOf u16At u32At i16At first checks upTo padded recordTrouble runAt runStart readJob anyTo partsTrouble runTrouble numberBefore jobTrouble worked chosenIn reducedRun runNamed packed le spliced entryBytes entriesBytes sheetBytes findingBytes findingsBytes handed outcome success answerOf linesAfter findingsAfter countAnswer numberAnswer workedLines
 printed = record { answer = refl; lines = refl; findings = refl }

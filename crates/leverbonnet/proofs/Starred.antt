@@ -1,7 +1,7 @@
 -- All starred values of the paper hold: one statement over one list.
 use Rattle.lines.proofs.Starred.{roots-hold, leak-holds, worked-lines-hold}
-use Rattle.findings.specs.Starred.{Each, starredFactors, starredIsokinetic}
-use Rattle.findings.proofs.Starred.{starred-factors, starred-isokinetic}
+use Rattle.rules.specs.Starred.{Each, starredFactors, starredIsokinetic}
+use Rattle.rules.proofs.Starred.{starred-factors, starred-isokinetic}
 use Rattle.traverse.proofs.Theorems.{starred-positions}
 use Rattle.job.proofs.Examples.{worked}
 use Rattle.leverbonnet.specs.Starred.{Stands, starred}

@@ -5,7 +5,7 @@ use mathlib.Core.Bool.{true, false}
 use mathlib.Core.List.{List, [], _∷_, _++_, map}
 use lib.ListN.{replicate}
 use Rattle.lines.specs.Starred.{Example, roots, leak, workedLines}
-use Rattle.findings.specs.Starred.{StarredFactor, FactorStands, StarredIsokinetic, IsokineticStands}
+use Rattle.rules.specs.Starred.{StarredFactor, FactorStands, StarredIsokinetic, IsokineticStands}
 use Rattle.traverse.specs.Positions.{position, starredPositions}
 use Rattle.records.specs.declared.Certificate.{Certificate}
 use Rattle.records.specs.declared.Run.{Run}

@@ -6,18 +6,21 @@ use mathlib.Core.List.{List, [], _∷_, _++_}
 use native.Mathlib.Omega.{arith}
 use lib.Dec.{eqb}
 use lib.ListN.{length, getD, replicate, length-append, List·getD-append}
+use Rattle.readings.specs.Ranges.{leastRunNumber, greatestRunNumber, leastPointCount, greatestPointCount, leastSegmentCount, greatestSegmentCount, greatestWeighingCount}
+use Rattle.readings.specs.Grids.{oneOf}
 use Rattle.readings.proofs.Ranges.{within-greatest}
+use Rattle.arrays.specs.Arrays.{filledTo}
 use Rattle.records.specs.declared.Run.{Run}
 use Rattle.records.specs.InRange.{RunOk}
 use Rattle.lines.specs.declared.Entry.{Entry}
 use Rattle.lines.specs.declared.Line.{Line}
 use Rattle.lines.specs.declared.Line.the-variants.{Present, Absent}
 use Rattle.lines.specs.declared.Sheet.{Sheet}
+use Rattle.lines.specs.Sheet.{lineCount}
 use Rattle.certs.specs.declared.Chosen.{Chosen}
 use Rattle.findings.specs.declared.Finding.{Finding}
-use Rattle.readings.specs.Ranges.{oneOf}
-use Rattle.findings.specs.Rules.{placesOf, placeOf}
-use Rattle.findings.specs.Listing.{noFinding, most, listed, findingsFor, linesFor, Breaks}
+use Rattle.rules.specs.Rules.{placesOf, placeAt}
+use Rattle.findings.specs.Listing.{noFinding, mostFindings, listed, findingsFor, linesFor, Breaks}
 use Rattle.findings.proofs.Members.{listed-exactly}
 use Rattle.findings.proofs.Most.{at-most-for}
 use Rattle.reduction.specs.Reducing.{worked}
@@ -50,7 +53,7 @@ line-short number entry few =
 
 sheet-short : (sheet : Sheet) → length (sheetText sheet) ≤ 500
 unfolding sheetText
-sheet-short sheet = joined-short (lineAt (sheet .entries)) 20 25 (λ i inside. line-short (i + 1) _ (omega arith))
+sheet-short sheet = joined-short (lineAt (sheet .entries)) lineCount 25 (λ i inside. line-short (i + 1) _ (omega arith))
 
 -- Findings
 
@@ -74,17 +77,17 @@ either-most true a b n h k = h
 either-most false a b n h k = k
 
 -- no rule has more places than there can be points, and no finding stands behind the last of them
-places-few : (r : Run) → RunOk r → (rule : ℕ) → placesOf (r .counts) rule ≤ 64
+places-few : (r : Run) → RunOk r → (rule : ℕ) → placesOf (r .header .counts) rule ≤ greatestPointCount
 unfolding placesOf
 places-few r ok rule =
-    let points = within-greatest 1 64 _ (ok .countOfPoints) in
-    let segments = within-greatest 1 16 _ (ok .countOfSegments) in
-    let weighings = within-greatest 0 8 _ (ok .countOfWeighings) in
-    either-most (eqb rule 10) _ _ 64 points (either-most (eqb rule 11) _ _ 64 (omega arith) (either-most (eqb rule 17) _ _ 64 (omega arith) (omega arith)))
+    let points = within-greatest leastPointCount greatestPointCount _ (ok .header .points) in
+    let segments = within-greatest leastSegmentCount greatestSegmentCount _ (ok .header .segments) in
+    let weighings = within-greatest 0 greatestWeighingCount _ (ok .header .weighings) in
+    either-most (eqb rule 10) _ _ greatestPointCount points (either-most (eqb rule 11) _ _ greatestPointCount (omega arith) (either-most (eqb rule 17) _ _ greatestPointCount (omega arith) (omega arith)))
 
-place-few : (rule i : ℕ) → i < 64 → placeOf rule i ≤ 64
-unfolding placeOf
-place-few rule i h = either-most (oneOf (10 ∷ 11 ∷ 17 ∷ []) rule) _ _ 64 (omega arith) (omega arith)
+place-few : (rule i : ℕ) → i < greatestPointCount → placeAt rule i ≤ greatestPointCount
+unfolding placeAt
+place-few rule i h = either-most (oneOf (10 ∷ 11 ∷ 17 ∷ []) rule) _ _ greatestPointCount (omega arith) (omega arith)
 
 -- what a run breaks, and where, are numbers of two digits
 module _ (r : Run) (ch : Chosen) (ok : RunOk r) where
@@ -100,10 +103,10 @@ module _ (r : Run) (ch : Chosen) (ok : RunOk r) where
       finding-short _ (omega (arith, b .last)) (omega (arith, place, b .there))
 
   found-short : length (findingsText (listed (findingsFor r ch) .list) (listed (findingsFor r ch) .count)) ≤ 1176
-  unfolding findingsText listed
+  unfolding findingsText listed filledTo
   found-short =
       let fs = findingsFor r ch in
-      let behind = replicate (most - length fs) noFinding in
+      let behind = replicate (mostFindings - length fs) noFinding in
       let all = joined-short (λ i. findingText (getD (fs ++ behind) i noFinding)) (length fs) 12 (λ i inside. rw (List·getD-append fs behind noFinding i inside) (finding-at-short i inside)) in
       omega (arith, all, at-most-for r ch ok)
 
@@ -116,7 +119,7 @@ standing-short accepted = either-short accepted _ _ 10 (omega arith) (omega arit
 pub run-short : (r : Run) (ch : Chosen) → RunOk r → length (runText (worked r ch)) ≤ 1693
 unfolding runText worked
 run-short r ch ok =
-    let number = decimal (r .number) in
+    let number = decimal (r .header .number) in
     let stands = standing (worked r ch .accepted) in
     let sheet = sheetText (worked r ch .sheet) in
     let found = findingsText (listed (findingsFor r ch) .list) (listed (findingsFor r ch) .count) in
@@ -124,5 +127,5 @@ run-short r ch ok =
     let two = length-append (runWord ++ number) stands in
     let three = length-append (runWord ++ number ++ stands) sheet in
     let four = length-append (runWord ++ number ++ stands ++ sheet) found in
-    let small = within-greatest 1 999 _ (ok .number) in
-    omega (arith, one, two, three, four, decimal-digits 2 (r .number) (omega (arith, small)), standing-short (worked r ch .accepted), sheet-short (worked r ch .sheet), found-short r ch ok)
+    let small = within-greatest leastRunNumber greatestRunNumber _ (ok .header .number) in
+    omega (arith, one, two, three, four, decimal-digits 2 (r .header .number) (omega (arith, small)), standing-short (worked r ch .accepted), sheet-short (worked r ch .sheet), found-short r ch ok)

@@ -6,6 +6,7 @@ use lib.Dec.{eqb}
 use lib.ListN.{getD}
 use Rattle.findings.specs.declared.Finding.{Finding}
 use Rattle.findings.specs.Listing.{noFinding}
+use Rattle.rules.specs.Rules.{fault}
 use Rattle.reduction.specs.declared.Reduced.{Reduced}
 use Rattle.characters.specs.Numbers.{decimal}
 use Rattle.output.specs.Bytes.{joined}
@@ -13,7 +14,7 @@ use Rattle.text.specs.Sheets.{space, newline, sheetText}
 
 -- "FAULT " for class 1, "NOTE " for a note
 unfoldable pub className : ℕ → List ℕ
-className class = cond (eqb class 1) (70 ∷ 65 ∷ 85 ∷ 76 ∷ 84 ∷ 32 ∷ []) (78 ∷ 79 ∷ 84 ∷ 69 ∷ 32 ∷ [])
+className class = cond (eqb class fault) (70 ∷ 65 ∷ 85 ∷ 76 ∷ 84 ∷ 32 ∷ []) (78 ∷ 79 ∷ 84 ∷ 69 ∷ 32 ∷ [])
 
 -- a finding: NOTE or FAULT, rule, place
 unfoldable pub findingText : Finding → List ℕ

@@ -1,12 +1,12 @@
 -- The twenty lines of a sheet as characters: number, value and the end of the line.
 use Prim.Native.Nat.{ℕ, _+_}
 use mathlib.Core.List.{List, [], _∷_, _++_}
-use lib.IntN.{pos}
 use lib.ListN.{getD}
 use Rattle.lines.specs.declared.Entry.{Entry}
 use Rattle.lines.specs.declared.Line.{Line}
 use Rattle.lines.specs.declared.Line.the-variants.{Present, Absent}
 use Rattle.lines.specs.declared.Sheet.{Sheet}
+use Rattle.lines.specs.Sheet.{noEntry, lineCount}
 use Rattle.characters.specs.Numbers.{decimal, signedDecimal}
 use Rattle.output.specs.Bytes.{joined}
 
@@ -29,14 +29,10 @@ valueText Absent = dash
 unfoldable pub lineText : ℕ → Entry → List ℕ
 lineText number entry = decimal number ++ space ++ valueText (entry .line) ++ newline
 
--- what stands past the last entry
-abbrev pub noEntry : Entry
-noEntry = record { line = Present (pos 0) }
-
 -- the line of the entry at an index
 abbrev pub lineAt : List Entry → ℕ → List ℕ
 lineAt entries i = lineText (i + 1) (getD entries i noEntry)
 
 -- all twenty
 unfoldable pub sheetText : Sheet → List ℕ
-sheetText sheet = joined (lineAt (sheet .entries)) 20
+sheetText sheet = joined (lineAt (sheet .entries)) lineCount

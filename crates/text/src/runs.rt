@@ -7,6 +7,7 @@ use findings::Finding;
 use findings::Findings;
 use reduction::Reduced;
 ghost use Prim.Native.Nat.{_≤_};
+ghost use Rattle.findings.specs.Listing.{mostFindings};
 ghost use Rattle.characters.specs.Writing.{Room, Wrote};
 ghost use Rattle.text.specs.Runs.{className, findingText, findingsText, standing, runText};
 
@@ -15,7 +16,7 @@ fn put_class(out: &mut [u8], at: usize, class: u8) -> usize
     requires { ⌜ Room (now out) at (className class) ⌝ }
     ensures { λ r. ⌜ Wrote (now (out .entry)) at (className class) (now (out .exit)) r ⌝ }
 {
-    if class == Finding::FAULT {
+    if class == rules::FAULT {
         return put_word(out, at, b"FAULT ");
     }
     put_word(out, at, b"NOTE ")
@@ -35,7 +36,7 @@ fn put_finding(out: &mut [u8], at: usize, f: Finding) -> usize
 
 // All findings, in order.
 fn put_findings(out: &mut [u8], at: usize, found: Findings) -> usize
-    requires { ⌜ (found .count ≤ 98) × Room (now out) at (findingsText (found .list) (found .count)) ⌝ }
+    requires { ⌜ (found .count ≤ mostFindings) × Room (now out) at (findingsText (found .list) (found .count)) ⌝ }
     ensures { λ r. ⌜ Wrote (now (out .entry)) at (findingsText (found .list) (found .count)) (now (out .exit)) r ⌝ }
 {
     let list = found.list;
@@ -62,7 +63,7 @@ fn put_standing(out: &mut [u8], at: usize, accepted: bool) -> usize
 
 // A run: its number and whether it stands, its twenty lines, its findings.
 pub fn put_run(out: &mut [u8], at: usize, r: Reduced) -> usize
-    requires { ⌜ (r .findings .count ≤ 98) × Room (now out) at (runText r) ⌝ }
+    requires { ⌜ (r .findings .count ≤ mostFindings) × Room (now out) at (runText r) ⌝ }
     ensures { λ e. ⌜ Wrote (now (out .entry)) at (runText r) (now (out .exit)) e ⌝ }
 {
     let sheet = r.sheet;

@@ -4,6 +4,7 @@ use characters::put_decimal;
 use characters::put_signed;
 use characters::put_word;
 use lines::Entry;
+use lines::LINES;
 use lines::Line;
 use lines::Sheet;
 ghost use Rattle.characters.specs.Writing.{Room, Wrote};
@@ -40,7 +41,7 @@ pub fn put_sheet(out: &mut [u8], at: usize, sheet: Sheet) -> usize
     let entries = sheet.entries;
     let mut next = at;
     let mut i: usize = 0;
-    while i < 20 {
+    while i < LINES {
         next = put_line(out, next, i as u64 + 1, entries[i]);
         i += 1;
     }

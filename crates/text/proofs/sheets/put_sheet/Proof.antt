@@ -1,6 +1,7 @@
 -- The loop writes one line a turn.
 use Prim.Native.Nat.{_-_, _≤_}
 use native.Mathlib.Omega.{arith}
+use Rattle.lines.specs.Sheet.{lineCount}
 use Rattle.output.specs.Bytes.{joined}
 use Rattle.characters.specs.Writing.{Room, Wrote}
 use Rattle.characters.proofs.Texts.{joined-none, joined-room, joined-more, joined-all}
@@ -9,13 +10,13 @@ use Rattle.text.proofs.sheets.put_sheet.Statement.{statement}
 use Rattle.text.proofs.sheets.put_sheet.Tie as tie
 
 abbrev Inv-loop : tie.InvT-loop
-Inv-loop out₀ at entries next₀ i₀ out next i = (i ≤ 20) × Wrote out₀ at (joined (lineAt entries) i) out next
+Inv-loop out₀ at entries next₀ i₀ out next i = (i ≤ lineCount) × Wrote out₀ at (joined (lineAt entries) i) out next
 
 abbrev μ-loop : tie.MeasureT-loop
-μ-loop out₀ at entries next₀ i₀ out next i = 20 - i
+μ-loop out₀ at entries next₀ i₀ out next i = lineCount - i
 
 -- room for the twenty lines
-room : (c : tie.Start Inv-loop μ-loop) → Room (c .args .out .now) (c .args .at) (joined (lineAt (c .args .sheet .entries)) 20)
+room : (c : tie.Start Inv-loop μ-loop) → Room (c .args .out .now) (c .args .at) (joined (lineAt (c .args .sheet .entries)) lineCount)
 unfolding sheetText
 room c = c .pre
 
