@@ -6,14 +6,14 @@ use Rattle.certs.specs.declared.comparison.Way.{Way}
 use Rattle.certs.specs.declared.comparison.Way.the-variants.{Below, Above, Same, Differs}
 use Rattle.certs.specs.declared.comparison.Comparison.{Comparison}
 
--- a standsTo to b this way
+-- a stands to b this way
 abbrev pub standsTo : Way → ℕ → ℕ → Bool
 standsTo Below a b = ltb a b
 standsTo Above a b = ltb b a
 standsTo Same a b = eqb a b
 standsTo Differs a b = not (eqb a b)
 
--- the left number standsTo to the right one as the comparison says
+-- the left number stands to the right one as the comparison says
 unfoldable pub holds : Comparison → Bool
 holds c = standsTo (c .way) (c .left) (c .right)
 

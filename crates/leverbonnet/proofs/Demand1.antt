@@ -1,13 +1,12 @@
 -- Demand 1. Every string of bytes is answered: the call is a total function of it. It is refused only by the table.
-use Prim.Native.Nat.{ℕ, zero, suc, _*_, _<_}
-use mathlib.Core.Path.{_≡_, refl, sym, _∙_, ap, subst₂}
+use Prim.Native.Nat.{ℕ, _*_}
+use mathlib.Core.Path.{_≡_, refl, subst₂}
 use mathlib.Core.Bool.{Bool, true, false, cond, _||_}
 use mathlib.Core.List.{List}
 use mathlib.Core.Logic.{inl, inr}
-use native.Mathlib.Decide.{ℕ-discrete}
 use native.Mathlib.Omega.{arith}
-use borrow.Author.Tests.{ltb-true, eqb-true, eqb-false}
-use lib.Dec.{ltb, eqb}
+use borrow.Author.Tests.{ltb-true}
+use lib.Dec.{ltb}
 use Rattle.fields.specs.declared.trouble.Trouble.{Trouble}
 use Rattle.fields.specs.declared.trouble.Trouble.the-variants.{Clear, At}
 use Rattle.job.specs.Places.{runCountOf, runOf}
@@ -16,33 +15,10 @@ use Rattle.reduction.specs.declared.Reduced.{Reduced}
 use Rattle.reduction.specs.declared.Which.{Which}
 use Rattle.reduction.specs.declared.Which.the-variants.{Index, NoRun}
 use Rattle.reduction.specs.Reducing.{reducedRun, runNamed}
+use Rattle.reduction.proofs.Naming.{found-inside, named, none-named}
+use Rattle.writing.specs.Bytes.{sheetSize, findingSize}
 use Rattle.leverbonnet.specs.Calls.{refused, reduced, handed, ofRun, ofTrouble, outcome}
 use Rattle.leverbonnet.specs.Demands.{ByTable, reader, noRun, tooShort}
-use Rattle.leverbonnet.proofs.Outcomes.{found-inside}
-
--- the run that is found has the number, and where none is found none has
-module _ (s : List ℕ) (run : ℕ) where
-  named-step : (n : ℕ) (test : Bool) → eqb (runOf s n .header .number) run ≡ test → {k : ℕ} → cond test (Index n) (runNamed (runOf s) run n) ≡ Index k → (runNamed (runOf s) run n ≡ Index k → runOf s k .header .number ≡ run) → runOf s k .header .number ≡ run
-  named-step n true e {k} f before = let same : n ≡ k = cc in ap (λ i. runOf s i .header .number) (sym same) ∙ eqb-true _ _ e
-  named-step n false e f before = before f
-
-  pub named : (n : ℕ) {k : ℕ} → runNamed (runOf s) run n ≡ Index k → runOf s k .header .number ≡ run
-  unfolding runNamed
-  named zero e = let never : _≡_ {A = ℕ} 0 1 = cc in absurd (omega arith)
-  named (suc n) e = named-step n (eqb (runOf s n .header .number) run) refl e (named n)
-
-  none-step : (n : ℕ) (test : Bool) → eqb (runOf s n .header .number) run ≡ test → cond test (Index n) (runNamed (runOf s) run n) ≡ NoRun → (runNamed (runOf s) run n ≡ NoRun → (k : ℕ) → k < n → runOf s k .header .number ≡ run → ⊥) → (k : ℕ) → k < suc n → runOf s k .header .number ≡ run → ⊥
-  none-step n true e f before k inside same = let never : _≡_ {A = ℕ} 0 1 = cc in absurd (omega arith)
-  none-step n false e f before k inside same = last (ℕ-discrete k n)
-    where
-      last : Dec (k ≡ n) → ⊥
-      last (yes q) = eqb-false _ _ e (ap (λ i. runOf s i .header .number) (sym q) ∙ same)
-      last (no q) = before f k (omega (arith, q)) same
-
-  pub none-named : (n : ℕ) → runNamed (runOf s) run n ≡ NoRun → (k : ℕ) → k < n → runOf s k .header .number ≡ run → ⊥
-  unfolding runNamed
-  none-named zero e k inside same = absurd (omega (arith, inside))
-  none-named (suc n) e k inside same = none-step n (eqb (runOf s n .header .number) run) refl e (none-named n) k inside same
 
 -- a run that is not handed over had an output too short
 pub data Short (number place : ℕ) (a b : Bool) : Type 0 where
@@ -55,21 +31,21 @@ short false true r e = findings (cc) (cc) refl
 short false false r e = let never : _≡_ {A = ℕ} 0 1 = cc in absurd (omega arith)
 
 module _ (s : List ℕ) (run lines′ findings′ : ℕ) where
-  by-room : {number place : ℕ} (k : ℕ) → jobTrouble s ≡ Clear → runNamed (runOf s) run (runCountOf s) ≡ Index k → Short number place (ltb lines′ 180) (ltb findings′ (4 * reducedRun s k .findings .count)) → ByTable s run lines′ findings′ number place
+  by-room : {number place : ℕ} (k : ℕ) → jobTrouble s ≡ Clear → runNamed (runOf s) run (runCountOf s) ≡ Index k → Short number place (ltb lines′ sheetSize) (ltb findings′ (findingSize * reducedRun s k .findings .count)) → ByTable s run lines′ findings′ number place
   by-room {number} {place} k clear e (lines en ep t) =
       subst₂ (λ (n p : ℕ). ByTable s run lines′ findings′ n p) en ep
-      (tooShort k clear (found-inside s run (runCountOf s) e) (named s run (runCountOf s) e) (inl (ltb-true _ _ t)))
+      (tooShort k clear (found-inside (runOf s) run (runCountOf s) e) (named (runOf s) run (runCountOf s) e) (inl (ltb-true _ _ t)))
   by-room {number} {place} k clear e (findings en ep t) =
       subst₂ (λ (n p : ℕ). ByTable s run lines′ findings′ n p) en ep
-      (tooShort k clear (found-inside s run (runCountOf s) e) (named s run (runCountOf s) e) (inr (ltb-true _ _ t)))
+      (tooShort k clear (found-inside (runOf s) run (runCountOf s) e) (named (runOf s) run (runCountOf s) e) (inr (ltb-true _ _ t)))
 
   by-run : {number place : ℕ} (which : Which) → jobTrouble s ≡ Clear → runNamed (runOf s) run (runCountOf s) ≡ which → ofRun s which lines′ findings′ ≡ refused number place → ByTable s run lines′ findings′ number place
   unfolding handed
   by-run {number} {place} NoRun clear e o =
       let ten : 10 ≡ number = cc in
       let at : 0 ≡ place = cc in
-      subst₂ (λ (n p : ℕ). ByTable s run lines′ findings′ n p) ten at (noRun clear (none-named s run (runCountOf s) e))
-  by-run (Index k) clear e o = by-room k clear e (short (ltb lines′ 180) (ltb findings′ (4 * reducedRun s k .findings .count)) (reducedRun s k) o)
+      subst₂ (λ (n p : ℕ). ByTable s run lines′ findings′ n p) ten at (noRun clear (none-named (runOf s) run (runCountOf s) e))
+  by-run (Index k) clear e o = by-room k clear e (short (ltb lines′ sheetSize) (ltb findings′ (findingSize * reducedRun s k .findings .count)) (reducedRun s k) o)
 
   by-trouble : {number place : ℕ} (t : Trouble) → jobTrouble s ≡ t → ofTrouble t s run lines′ findings′ ≡ refused number place → ByTable s run lines′ findings′ number place
   by-trouble {number} {place} (At n p) e o =

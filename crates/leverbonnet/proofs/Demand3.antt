@@ -11,7 +11,8 @@ use lib.ListN.{length, getD}
 use Rattle.fields.specs.declared.trouble.Trouble.the-variants.{Clear}
 use Rattle.certs.specs.Choosing.{Unique, Of}
 use Rattle.certs.proofs.Choosing.{chosenFor-same-members}
-use Rattle.findings.specs.Listing.{noFinding, accepted, linesFor, findingsFor, Breaks, Holds}
+use Rattle.rules.specs.Rules.{fault}
+use Rattle.findings.specs.Listing.{noFinding, linesFor, findingsFor, Breaks, HasFinding}
 use Rattle.findings.proofs.Accepting.{accepted-exactly}
 use Rattle.findings.proofs.Members.{listed-exactly}
 use Rattle.heads.specs.Values.{certificateOf}
@@ -20,21 +21,20 @@ use Rattle.job.specs.Troubles.{jobTrouble}
 use Rattle.job.proofs.ClearJobs.{unique, rising}
 use Rattle.reduction.specs.declared.Which.{Which}
 use Rattle.reduction.specs.declared.Which.the-variants.{Index, NoRun}
-use Rattle.reduction.specs.Reducing.{worked, chosenIn, reducedRun, runNamed}
+use Rattle.reduction.specs.Reducing.{worked, reduction, chosenIn, reducedRun, runNamed}
+use Rattle.reduction.proofs.Naming.{found-inside, named, none-named}
 use Rattle.output.specs.Answers.{packed}
 use Rattle.leverbonnet.specs.Calls.{handed, ofRun, ofTrouble, outcome, answerOf, linesAfter, findingsAfter, Reduces}
 use Rattle.leverbonnet.specs.Demands.{SameRun}
-use Rattle.leverbonnet.proofs.Outcomes.{found-inside}
-use Rattle.leverbonnet.proofs.Demand1.{named, none-named}
 
 -- A finding is among those written for run k exactly if the run breaks that rule at that place
-pub found-exactly : (s : List ℕ) (k rule place : ℕ) → Holds (findingsFor (runOf s k) (chosenIn s k)) rule place ↔ Breaks (runOf s k) (chosenIn s k) (linesFor (runOf s k) (chosenIn s k)) rule place
+pub found-exactly : (s : List ℕ) (k rule place : ℕ) → HasFinding (findingsFor (runOf s k) (chosenIn s k)) rule place ↔ Breaks (runOf s k) (chosenIn s k) (linesFor (runOf s k) (chosenIn s k)) rule place
 unfolding findingsFor
 found-exactly s k rule place = listed-exactly (runOf s k) (chosenIn s k) (linesFor (runOf s k) (chosenIn s k)) rule place
 
 -- Run k is accepted exactly if none of its findings is a fault
-pub accepted-when : (s : List ℕ) (k : ℕ) → (reducedRun s k .accepted ≡ true) ↔ ((i : ℕ) → i < length (findingsFor (runOf s k) (chosenIn s k)) → getD (findingsFor (runOf s k) (chosenIn s k)) i noFinding .class ≡ 1 → ⊥)
-unfolding reducedRun worked
+pub accepted-when : (s : List ℕ) (k : ℕ) → (reducedRun s k .accepted ≡ true) ↔ ((i : ℕ) → i < length (findingsFor (runOf s k) (chosenIn s k)) → getD (findingsFor (runOf s k) (chosenIn s k)) i noFinding .class ≡ fault → ⊥)
+unfolding reducedRun reduction chosenIn worked
 accepted-when s k = accepted-exactly (findingsFor (runOf s k) (chosenIn s k))
 
 -- a job that is read repeats no certificate
@@ -51,9 +51,9 @@ read-unique s clear = record { once = once }
 
 -- Two jobs: the same run reduced is the same, lines and findings
 pub same-reduced : (s t : List ℕ) (run : ℕ) (same : SameRun s t run) → reducedRun s (same .index) ≡ reducedRun t (same .other)
-unfolding reducedRun chosenIn
+unfolding reducedRun reduction
 same-reduced s t run same =
-    let chosen = chosenFor-same-members (runOf s (same .index)) (certificateOf s) (certificateCountOf s) (certificateOf t) (certificateCountOf t) (read-unique s (same .first)) (same .certificates) in
+    let chosen = chosenFor-same-members (runOf s (same .index) .header) (certificateOf s) (certificateCountOf s) (certificateOf t) (certificateCountOf t) (read-unique s (same .first)) (same .certificates) in
     ap (worked (runOf s (same .index))) chosen ∙ rw (same .record′)
 
 -- a job that is read has one run of a number
@@ -70,8 +70,8 @@ found-by-number : (s : List ℕ) (run k : ℕ) → jobTrouble s ≡ Clear → k 
 found-by-number s run k clear inside number = go (runNamed (runOf s) run (runCountOf s)) refl
   where
     go : (which : Which) → runNamed (runOf s) run (runCountOf s) ≡ which → runNamed (runOf s) run (runCountOf s) ≡ Index k
-    go NoRun e = absurd (none-named s run (runCountOf s) e k inside number)
-    go (Index j) e = e ∙ ap Index (one-of-number s clear j k (found-inside s run (runCountOf s) e) inside (named s run (runCountOf s) e ∙ sym number))
+    go NoRun e = absurd (none-named (runOf s) run (runCountOf s) e k inside number)
+    go (Index j) e = e ∙ ap Index (one-of-number s clear j k (found-inside (runOf s) run (runCountOf s) e) inside (named (runOf s) run (runCountOf s) e ∙ sym number))
 
 -- and the outcome is that run's
 outcome-of-run : (s : List ℕ) (run k lines findings : ℕ) → jobTrouble s ≡ Clear → k < runCountOf s → runOf s k .header .number ≡ run → outcome s run lines findings ≡ handed (reducedRun s k) lines findings
@@ -85,7 +85,7 @@ pub same-outcome : (s t : List ℕ) (run lines findings : ℕ) → SameRun s t r
 same-outcome s t run lines findings same =
     outcome-of-run s run (same .index) lines findings (same .first) (same .inside) (same .number)
     ∙ ap (λ r. handed r lines findings) (same-reduced s t run same)
-    ∙ sym (outcome-of-run t run (same .other) lines findings (same .second) (same .within) (ap (λ r. r .number) (sym (same .record′)) ∙ same .number))
+    ∙ sym (outcome-of-run t run (same .other) lines findings (same .second) (same .within) (ap (λ r. r .header .number) (sym (same .record′)) ∙ same .number))
 
 -- Two jobs: what the call answers and writes for one, it answers and writes for the other, byte for byte
 pub same-bytes : (s t : List ℕ) (run : ℕ) → SameRun s t run → {linesIn findingsIn linesOut findingsOut : List ℕ} {r : ℕ} → Reduces s run linesIn findingsIn linesOut findingsOut r → Reduces t run linesIn findingsIn linesOut findingsOut r

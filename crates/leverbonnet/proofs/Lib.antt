@@ -1,5 +1,4 @@
 -- The laws that the calls' proofs share, and the three demands.
-pub mod Filling
 pub mod Outcomes
 pub mod Demand1
 pub mod Demand2

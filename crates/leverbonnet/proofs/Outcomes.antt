@@ -1,11 +1,8 @@
 -- Each way through a call, and the outcome that it is.
-use Prim.Native.Nat.{ℕ, zero, suc, _*_, _≤_, _<_}
+use Prim.Native.Nat.{ℕ, _*_, _≤_, _<_}
 use mathlib.Core.Path.{_≡_, refl, sym, _∙_, ap, subst}
-use mathlib.Core.Bool.{Bool, true, false, cond}
 use mathlib.Core.List.{List}
-use native.Mathlib.Omega.{arith}
 use borrow.Author.Tests.{lt-ltb, le-ltb, le-leb, lt-leb}
-use lib.Dec.{eqb}
 use lib.ListN.{length, getD, drop}
 use Rattle.fields.specs.declared.trouble.Trouble.the-variants.{At}
 use Rattle.fields.specs.Numbers.{u16At}
@@ -21,8 +18,8 @@ use Rattle.reduction.proofs.ClearJobs.{count-of-runs, start-of, read-refused}
 use Rattle.output.specs.declared.Answer.{Answer}
 use Rattle.output.specs.declared.Answer.the-variants.{Done, Refused}
 use Rattle.output.specs.Splice.{spliced}
-use Rattle.leverbonnet.specs.Bytes.{sheetBytes, findingsBytes}
-use Rattle.leverbonnet.specs.Calls.{Outcome, refused, reduced, handed, outcome, success, answerOf, linesAfter, findingsAfter, Came, countAnswer, numberAnswer}
+use Rattle.writing.specs.Bytes.{sheetSize, sheetBytes, findingSize, findingsBytes}
+use Rattle.leverbonnet.specs.Calls.{Outcome, refused, handed, outcome, success, answerOf, linesAfter, findingsAfter, Came, countAnswer, numberAnswer}
 
 -- a refusal leaves both buffers as they were
 pub came-refused : {o : Outcome} (number place : ℕ) (lines findings : List ℕ) → o ≡ refused number place → Came o lines findings lines findings (Refused number place)
@@ -31,18 +28,18 @@ came-refused number place lines findings e = rw e (record { answer = refl; lines
 
 -- Handing a reduced run over
 
-pub short-lines : (r : Reduced) (lines findings : ℕ) → lines < 180 → handed r lines findings ≡ refused 9 0
+pub short-lines : (r : Reduced) (lines findings : ℕ) → lines < sheetSize → handed r lines findings ≡ refused 9 0
 unfolding handed
-short-lines r lines findings h = rw (lt-ltb lines 180 h)
+short-lines r lines findings h = rw (lt-ltb lines sheetSize h)
 
-pub short-findings : (r : Reduced) (lines findings : ℕ) → 180 ≤ lines → findings < 4 * r .findings .count → handed r lines findings ≡ refused 9 0
+pub short-findings : (r : Reduced) (lines findings : ℕ) → sheetSize ≤ lines → findings < findingSize * r .findings .count → handed r lines findings ≡ refused 9 0
 unfolding handed
-short-findings r lines findings h k = rw (le-ltb lines 180 h, lt-ltb findings (4 * r .findings .count) k)
+short-findings r lines findings h k = rw (le-ltb lines sheetSize h, lt-ltb findings (findingSize * r .findings .count) k)
 
-pub came-reduced : (r : Reduced) (lines findings : List ℕ) {linesOut findingsOut : List ℕ} {n : ℕ} → 180 ≤ length lines → 4 * r .findings .count ≤ length findings → linesOut ≡ spliced lines 0 (sheetBytes (r .sheet)) → findingsOut ≡ spliced findings 0 (findingsBytes (r .findings .list) (r .findings .count)) → n ≡ success (r .findings .count) (r .accepted) → Came (handed r (length lines) (length findings)) lines findings linesOut findingsOut (Done n)
+pub came-reduced : (r : Reduced) (lines findings : List ℕ) {linesOut findingsOut : List ℕ} {n : ℕ} → sheetSize ≤ length lines → findingSize * r .findings .count ≤ length findings → linesOut ≡ spliced lines 0 (sheetBytes (r .sheet)) → findingsOut ≡ spliced findings 0 (findingsBytes (r .findings .list) (r .findings .count)) → n ≡ success (r .findings .count) (r .accepted) → Came (handed r (length lines) (length findings)) lines findings linesOut findingsOut (Done n)
 unfolding handed answerOf linesAfter findingsAfter
 came-reduced r lines findings h k el ef en =
-    rw (le-ltb (length lines) 180 h, le-ltb (length findings) (4 * r .findings .count) k)
+    rw (le-ltb (length lines) sheetSize h, le-ltb (length findings) (findingSize * r .findings .count) k)
     (record { answer = ap Done en; lines = el; findings = ef })
 
 -- The call as a whole
@@ -66,16 +63,6 @@ one-run s j run lines findings ok ew ek er =
 -- what came of one outcome came of the same one
 pub came-same : {o o′ : Outcome} {lines findings linesOut findingsOut : List ℕ} {a : Answer} → o ≡ o′ → Came o lines findings linesOut findingsOut a → Came o′ lines findings linesOut findingsOut a
 came-same {lines = lines} {findings} {linesOut} {findingsOut} {a} e came = subst (λ o. Came o lines findings linesOut findingsOut a) e came
-
--- a run that was found is one of the job's
-one-of : (test : Bool) (rest : Which) (n : ℕ) {k : ℕ} → cond test (Index n) rest ≡ Index k → (rest ≡ Index k → k < n) → k < suc n
-one-of true rest n {k} e before = let same : n ≡ k = cc in omega arith
-one-of false rest n e before = let less = before e in omega arith
-
-pub found-inside : (s : List ℕ) (run n : ℕ) {k : ℕ} → runNamed (runOf s) run n ≡ Index k → k < n
-unfolding runNamed
-found-inside s run zero e = let never : _≡_ {A = ℕ} 0 1 = cc in absurd (omega arith)
-found-inside s run (suc n) e = one-of (eqb (runOf s n .header .number) run) (runNamed (runOf s) run n) n e (found-inside s run n)
 
 -- The other calls
 

@@ -3,39 +3,36 @@ use mathlib.Core.Path.{refl}
 use Rattle.arith.specs.Root.{grown, floorRoot, nearestRoot}
 use Rattle.arith.specs.Rounding.{roundDiv}
 use Rattle.readings.specs.Ranges.{within, signedWithin}
+use Rattle.readings.specs.Grids.{nextOf, nextGrid}
 use Rattle.records.specs.Records.{sameIdentity, sumTo}
-use Rattle.metering.specs.Metering.{time, meteredVolume, allowance, leakLoss, leakLosses, correctedVolume, meanOrifice, meterPressure, meterTemperature, dryVolume, waterVapor, moisture}
+use Rattle.metering.specs.Metering.{time, meteredVolume, allowance, leakLoss, leakLosses, correctedVolume, meanOrifice, meterPressure, meterTemperature, dryVolume, waterVapor, moisture, metering}
 use Rattle.values.specs.Promise.{unlessZero}
 use Rattle.values.specs.Signed.{addScaled}
-use Rattle.sampling.specs.Sampling.{nozzleArea, drawnGas, isokinetic, deduction, finalWeights, tares, catch, concentration}
-use Rattle.metering.specs.Metering.{metering}
-use Rattle.stack.specs.Stack.{stack}
-use Rattle.sampling.specs.Sampling.{sampling}
+use Rattle.sampling.specs.Sampling.{nozzleArea, drawnGas, isokinetic, deduction, finalWeights, tares, catch, concentration, sampling}
 use Rattle.lines.specs.Sheet.{lines, sheet}
-use Rattle.stack.specs.Stack.{dryWeight, wetWeight, stackPressure, stackTemperature, pointRoot, meanRoot, densityRoot, velocity}
+use Rattle.stack.specs.Stack.{dryWeight, wetWeight, stackPressure, stackTemperature, pointRoot, meanRoot, densityRoot, velocity, stack}
 use Rattle.certs.specs.Choosing.{eligible, keep, chosen, chosenFor}
-use Rattle.certs.specs.Comparing.{holds, distance}
+use Rattle.certs.specs.Comparing.{holds, apart}
 use Rattle.certs.specs.Factor.{factorMoved, factor, factorOf, coefficientOf, diametersOf}
 use Rattle.rules.specs.Grounds.{broken}
-use Rattle.findings.specs.Listing.{brokenAt, findingAt, ruleFindings, findingsTo, findings, accepted, listed, linesFor, findingsFor}
-use Rattle.rules.specs.Rules.{missing, moved, uneven, diameter, halfDiameter, undisturbed, minimumPoints, nextGrid, nextAllowed, judged, ofKind, certificateGrounds, siteGrounds, fieldGrounds, lineGrounds, weighingGrounds, groundOf, placesOf, placeAt, classOf}
+use Rattle.findings.specs.Listing.{partOf, ofKind, besideOf, brokenAt, findingAt, ruleFindings, findingsTo, findings, accepted, listed, linesFor, findingsFor}
+use Rattle.rules.specs.Rules.{missing, moved, uneven, diameter, halfDiameter, undisturbed, minimumPoints, nextAllowed, short, leaking, lineAgainst, unsteady, grounds, groundOf, placesOf, placeAt, classOf}
 use Rattle.fields.specs.Numbers.{u16At, u32At, i16At}
-use Rattle.fields.specs.Trouble.{first, checks, upTo}
-use Rattle.arrays.specs.Arrays.{padded}
-use Rattle.fields.specs.Trouble.{recordTrouble}
+use Rattle.fields.specs.Trouble.{first, checks, recordTrouble, upTo}
+use Rattle.arrays.specs.Arrays.{padded, filledTo}
 use Rattle.parts.specs.Values.{runAt}
 use Rattle.job.specs.Places.{runStart}
 use Rattle.job.specs.Reading.{readJob}
 use Rattle.job.specs.Troubles.{anyTo, partsTrouble, runTrouble, numberBefore, jobTrouble}
-use Rattle.reduction.specs.Reducing.{worked, chosenIn, reducedRun, runNamed}
+use Rattle.reduction.specs.Reducing.{worked, reduction, chosenIn, reducedRun, runNamed}
 use Rattle.output.specs.Answers.{packed}
-use Rattle.output.specs.Bytes.{le}
+use Rattle.output.specs.Bytes.{le, joined}
 use Rattle.output.specs.Splice.{spliced}
-use Rattle.leverbonnet.specs.Bytes.{entryBytes, entriesBytes, sheetBytes, findingBytes, findingsBytes}
+use Rattle.writing.specs.Bytes.{entryBytes, sheetBytes, findingBytes, findingsBytes}
 use Rattle.leverbonnet.specs.Calls.{handed, outcome, success, answerOf, linesAfter, findingsAfter, countAnswer, numberAnswer}
 use Rattle.lines.specs.Starred.{workedLines}
 use Rattle.leverbonnet.specs.Starred.{PrintedJob}
 
 pub printed : PrintedJob
-unfolding grown floorRoot nearestRoot roundDiv within signedWithin sameIdentity sumTo time meteredVolume allowance leakLoss leakLosses correctedVolume meanOrifice meterPressure meterTemperature dryVolume waterVapor moisture unlessZero addScaled nozzleArea drawnGas isokinetic deduction finalWeights tares catch concentration metering stack sampling lines sheet dryWeight wetWeight stackPressure stackTemperature pointRoot meanRoot densityRoot velocity eligible keep chosen chosenFor holds distance factorMoved factor factorOf coefficientOf diametersOf broken brokenAt findingAt ruleFindings findingsTo findings accepted listed linesFor findingsFor missing moved uneven diameter halfDiameter undisturbed minimumPoints nextGrid nextAllowed judged ofKind certificateGrounds siteGrounds fieldGrounds lineGrounds weighingGrounds groundOf placesOf placeAt classOf u16At u32At i16At first checks upTo padded recordTrouble runAt runStart readJob anyTo partsTrouble runTrouble numberBefore jobTrouble worked chosenIn reducedRun runNamed packed le spliced entryBytes entriesBytes sheetBytes findingBytes findingsBytes handed outcome success answerOf linesAfter findingsAfter countAnswer numberAnswer workedLines
+unfolding grown floorRoot nearestRoot roundDiv within signedWithin sameIdentity sumTo time meteredVolume allowance leakLoss leakLosses correctedVolume meanOrifice meterPressure meterTemperature dryVolume waterVapor moisture unlessZero addScaled nozzleArea drawnGas isokinetic deduction finalWeights tares catch concentration metering stack sampling lines sheet dryWeight wetWeight stackPressure stackTemperature pointRoot meanRoot densityRoot velocity eligible keep chosen chosenFor holds apart factorMoved factor factorOf coefficientOf diametersOf broken brokenAt findingAt ruleFindings findingsTo findings accepted listed linesFor findingsFor missing moved uneven diameter halfDiameter undisturbed minimumPoints nextOf nextGrid nextAllowed short leaking lineAgainst unsteady grounds groundOf partOf ofKind besideOf placesOf placeAt classOf u16At u32At i16At first checks upTo padded filledTo recordTrouble runAt runStart readJob anyTo partsTrouble runTrouble numberBefore jobTrouble worked reduction chosenIn reducedRun runNamed packed le spliced joined entryBytes sheetBytes findingBytes findingsBytes handed outcome success answerOf linesAfter findingsAfter countAnswer numberAnswer workedLines
 printed = record { answer = refl; lines = refl; findings = refl }

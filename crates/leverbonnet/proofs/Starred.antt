@@ -1,38 +1,21 @@
 -- All starred values of the paper hold: one statement over one list.
+use mathlib.Core.List.{List, [], _∷_, _++_, map}
+use Rattle.lines.specs.Starred.{roots, leak, workedLines}
 use Rattle.lines.proofs.Starred.{roots-hold, leak-holds, worked-lines-hold}
 use Rattle.rules.specs.Starred.{Each, starredFactors, starredIsokinetic}
-use Rattle.rules.proofs.Starred.{starred-factors, starred-isokinetic}
+use Rattle.rules.proofs.Starred.{starred-factors, starred-isokinetic, each-mapped}
+use Rattle.traverse.specs.Positions.{starredPositions}
 use Rattle.traverse.proofs.Theorems.{starred-positions}
+use Rattle.records.specs.Worked.{workedCertificates, workedRun}
+use Rattle.job.specs.Worked.{workedJob, workedRead}
 use Rattle.job.proofs.Examples.{worked}
-use Rattle.leverbonnet.specs.Starred.{Stands, starred}
+use Rattle.leverbonnet.specs.Starred.{StarredValue, ofNumbers, ofFactor, ofPercent, ofPositions, ofReading, Stands, starred}
 
 pub starred-stand : Each Stands starred
-unfolding starredFactors starredIsokinetic
-starred-stand = (
-  roots-hold,
-  (
-    leak-holds,
-    (
-      worked-lines-hold,
-      (
-        starred-factors .0,
-        (
-          starred-factors .1 .0,
-          (
-            starred-factors .1 .1 .0,
-            (
-              starred-isokinetic .0,
-              (
-                starred-isokinetic .1 .0,
-                (
-                  starred-isokinetic .1 .1 .0,
-                  (starred-isokinetic .1 .1 .1 .0, (starred-positions, (worked, tt))),
-                ),
-              ),
-            ),
-          ),
-        ),
-      ),
-    ),
-  ),
-)
+starred-stand =
+    let last : List StarredValue = ofPositions starredPositions ∷ ofReading workedJob workedRead workedCertificates workedRun ∷ [] in
+    let percents : List StarredValue = map ofPercent starredIsokinetic ++ last in
+    let factors : List StarredValue = map ofFactor starredFactors ++ percents in
+    each-mapped Stands ofNumbers (roots ∷ leak ∷ workedLines ∷ []) factors (roots-hold, (leak-holds, (worked-lines-hold, tt)))
+    (each-mapped Stands ofFactor starredFactors percents starred-factors
+    (each-mapped Stands ofPercent starredIsokinetic last starred-isokinetic (starred-positions, (worked, tt))))

@@ -18,17 +18,17 @@ use Rattle.output.specs.declared.Answer.the-variants.{Done, Refused}
 use Rattle.output.specs.Answers.{packed}
 use Rattle.output.specs.Splice.{spliced}
 use Rattle.printing.specs.Printing.{printing, printingAnswer, printingOut}
-use Rattle.layouts.specs.Outcomes.{Outcome as LayoutOutcome, answerOf as layoutAnswer, outOf}
-use Rattle.leverbonnet.specs.Bytes.{sheetBytes, findingsBytes}
+use Rattle.layouts.specs.Outcomes.{LayoutOutcome, layoutAnswer, layoutOut}
+use Rattle.writing.specs.Bytes.{sheetSize, sheetBytes, findingSize, findingsBytes}
 
 -- What comes of a call to reduce: a refusal, or a reduced run
 pub data Outcome : Type 0 where
   refused : ℕ → ℕ → Outcome
   reduced : Reduced → Outcome
 
--- 9: a lent output is too short, 180 bytes for lines and 4 for each finding
+-- 9: a lent output is too short for the lines, or for the findings
 unfoldable pub handed : Reduced → ℕ → ℕ → Outcome
-handed r lines findings = cond (ltb lines 180 || ltb findings (4 * r .findings .count)) (refused 9 0) (reduced r)
+handed r lines findings = cond (ltb lines sheetSize || ltb findings (findingSize * r .findings .count)) (refused 9 0) (reduced r)
 
 -- 10: no run of that number
 abbrev pub ofRun : List ℕ → Which → ℕ → ℕ → Outcome
@@ -90,17 +90,17 @@ unfoldable pub countAnswer : List ℕ → Answer
 countAnswer s = countOf (jobTrouble s) s
 
 -- leverbonnet_run_number: an index past the last is refused 10
-abbrev pub numberOf : Trouble → List ℕ → ℕ → Answer
-numberOf (At number place) s index = Refused number place
-numberOf Clear s index = cond (leb (runCountOf s) index) (Refused 10 0) (Done (runOf s index .header .number))
+abbrev pub numberAt : Trouble → List ℕ → ℕ → Answer
+numberAt (At number place) s index = Refused number place
+numberAt Clear s index = cond (leb (runCountOf s) index) (Refused 10 0) (Done (runOf s index .header .number))
 
 unfoldable pub numberAnswer : List ℕ → ℕ → Answer
-numberAnswer s index = numberOf (jobTrouble s) s index
+numberAnswer s index = numberAt (jobTrouble s) s index
 
 -- leverbonnet_round_layout and leverbonnet_rect_layout: the answer, and every byte of the output
 pub record LaysOut (o : LayoutOutcome) (old new : List ℕ) (r : ℕ) : Type 0 where
   pub answer : r ≡ packed (layoutAnswer o)
-  pub out : new ≡ outOf o old
+  pub out : new ≡ layoutOut o old
 
 -- leverbonnet_sheet_text: the answer, and every byte of the output
 pub record PrintsText (s old new : List ℕ) (r : ℕ) : Type 0 where

@@ -1,5 +1,4 @@
 -- What the public calls answer, and what they write.
-pub mod Bytes
 pub mod Calls
 pub mod Demands
 pub mod Starred

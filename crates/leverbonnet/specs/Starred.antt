@@ -1,11 +1,10 @@
 -- The starred values of the paper, in one list, and beside them the answer to its printed job.
 use Prim.Native.Nat.{ℕ}
 use mathlib.Core.Path.{_≡_}
-use mathlib.Core.Bool.{true, false}
 use mathlib.Core.List.{List, [], _∷_, _++_, map}
 use lib.ListN.{replicate}
 use Rattle.lines.specs.Starred.{Example, roots, leak, workedLines}
-use Rattle.rules.specs.Starred.{StarredFactor, FactorStands, StarredIsokinetic, IsokineticStands}
+use Rattle.rules.specs.Starred.{StarredFactor, starredFactors, FactorStands, StarredIsokinetic, starredIsokinetic, IsokineticStands}
 use Rattle.traverse.specs.Positions.{position, starredPositions}
 use Rattle.records.specs.declared.Certificate.{Certificate}
 use Rattle.records.specs.declared.Run.{Run}
@@ -16,42 +15,34 @@ use Rattle.job.specs.Places.{runOf}
 use Rattle.job.specs.Reading.{readJob}
 use Rattle.job.specs.Worked.{workedJob, workedRead}
 use Rattle.output.specs.Bytes.{le}
+use Rattle.writing.specs.Bytes.{sheetSize, findingSize}
 use Rattle.output.specs.Answers.{packed}
 use Rattle.leverbonnet.specs.Calls.{outcome, answerOf, linesAfter, findingsAfter}
 
--- a starred value: a number worked out beside the paper's, a factor, a line 18, the positions of six points, or what a file is read as
+-- a starred value: numbers worked out beside the paper's, a factor, a line 18, the positions of six points, or what a file is read as
 pub data StarredValue : Type 0 where
-  value : Example → StarredValue
-  factor : StarredFactor → StarredValue
-  percent : StarredIsokinetic → StarredValue
-  positions : List ℕ → StarredValue
-  reading : List ℕ → Job → List Certificate → Run → StarredValue
+  ofNumbers : Example → StarredValue
+  ofFactor : StarredFactor → StarredValue
+  ofPercent : StarredIsokinetic → StarredValue
+  ofPositions : List ℕ → StarredValue
+  ofReading : List ℕ → Job → List Certificate → Run → StarredValue
 
 -- it stands as the paper prints it
 abbrev pub Stands : StarredValue → Type 0
-Stands (value e) = e .worked ≡ e .expected
-Stands (factor f) = FactorStands f
-Stands (percent p) = IsokineticStands p
-Stands (positions ps) = map (position 6) (1 ∷ 2 ∷ 3 ∷ 4 ∷ 5 ∷ 6 ∷ []) ≡ ps
-Stands (reading file job certificates run) =
+Stands (ofNumbers e) = e .worked ≡ e .expected
+Stands (ofFactor f) = FactorStands f
+Stands (ofPercent p) = IsokineticStands p
+Stands (ofPositions ps) = map (position 6) (1 ∷ 2 ∷ 3 ∷ 4 ∷ 5 ∷ 6 ∷ []) ≡ ps
+Stands (ofReading file job certificates run) =
     (readJob file ≡ job) × (map (certificateOf file) (0 ∷ 1 ∷ 2 ∷ 3 ∷ []) ≡ certificates) × (runOf file 0 ≡ run)
 
 -- roots, leak and the worked job's lines; the factor moved and not moved; line 18 on either side; the positions; the printed job's file
 abbrev pub starred : List StarredValue
 starred =
-    value roots
-    ∷ value leak
-    ∷ value workedLines
-    ∷ factor (record { before = 10000; after = 10500; note = false; y = 10000 })
-    ∷ factor (record { before = 10000; after = 10501; note = true; y = 10000 })
-    ∷ factor (record { before = 10000; after = 9499; note = true; y = 9499 })
-    ∷ percent (record { line = 8999; fifteen = true; sixteen = false })
-    ∷ percent (record { line = 9000; fifteen = false; sixteen = false })
-    ∷ percent (record { line = 11000; fifteen = false; sixteen = false })
-    ∷ percent (record { line = 11001; fifteen = false; sixteen = true })
-    ∷ positions starredPositions
-    ∷ reading workedJob workedRead workedCertificates workedRun
-    ∷ []
+    map ofNumbers (roots ∷ leak ∷ workedLines ∷ [])
+    ++ (map ofFactor starredFactors
+    ++ (map ofPercent starredIsokinetic
+    ++ (ofPositions starredPositions ∷ ofReading workedJob workedRead workedCertificates workedRun ∷ [])))
 
 -- lines that are present, as bytes
 abbrev pub presentBytes : List ℕ → List ℕ
@@ -60,6 +51,6 @@ presentBytes (v ∷ vs) = (1 ∷ le 8 v) ++ presentBytes vs
 
 -- The printed job, run 7, into buffers that just suffice: accepted with one finding, the twenty lines, and the note of rule 11 at segment 1
 pub record PrintedJob : Type 0 where
-  pub answer : packed (answerOf (outcome workedJob 7 180 4)) ≡ 65537
-  pub lines : linesAfter (outcome workedJob 7 180 4) (replicate 180 0) ≡ presentBytes (workedLines .expected)
-  pub findings : findingsAfter (outcome workedJob 7 180 4) (replicate 4 0) ≡ 11 ∷ 2 ∷ 1 ∷ 0 ∷ []
+  pub answer : packed (answerOf (outcome workedJob 7 sheetSize findingSize)) ≡ 65537
+  pub lines : linesAfter (outcome workedJob 7 sheetSize findingSize) (replicate sheetSize 0) ≡ presentBytes (workedLines .expected)
+  pub findings : findingsAfter (outcome workedJob 7 sheetSize findingSize) (replicate findingSize 0) ≡ 11 ∷ 2 ∷ 1 ∷ 0 ∷ []

@@ -1,15 +1,18 @@
 // The calls on a job, with their answers as enums.
 
-use crate::writing::put_findings;
-use crate::writing::put_sheet;
 use fields::numbers;
 use fields::trouble::Trouble;
 use output::Answer;
 use reduction::Reduced;
 use reduction::Which;
 use reduction::find_run;
+use writing::FINDING_SIZE;
+use writing::SHEET_SIZE;
+use writing::put_findings;
+use writing::put_sheet;
 ghost use mathlib.Core.Path.{_≡_};
 ghost use Prim.Native.Nat.{_≤_};
+ghost use Rattle.findings.specs.Listing.{mostFindings};
 ghost use Rattle.leverbonnet.specs.Calls.{success, Handed, Answers, countAnswer, numberAnswer};
 
 // No run of that number, and a lent output that is too short.
@@ -17,12 +20,9 @@ const NO_RUN: u32 = 10;
 
 const TOO_SHORT: u32 = 9;
 
-// The bytes of a sheet.
-const SHEET: usize = 180;
-
 // How many findings, and 65,536 more if the run is accepted.
 fn success(count: usize, accepted: bool) -> u32
-    requires { ⌜ count ≤ 98 ⌝ }
+    requires { ⌜ count ≤ mostFindings ⌝ }
     ensures { λ r. ⌜ r ≡ success count accepted ⌝ }
 {
     if accepted {
@@ -33,15 +33,15 @@ fn success(count: usize, accepted: bool) -> u32
 
 // Hands a reduced run over in two buffers, or refuses before a byte is written.
 fn hand_over(done: Reduced, lines: &mut [u8], findings: &mut [u8]) -> Answer
-    requires { ⌜ done .findings .count ≤ 98 ⌝ }
+    requires { ⌜ done .findings .count ≤ mostFindings ⌝ }
     ensures { λ r. ⌜ Handed done (now (lines .entry)) (now (findings .entry)) (now (lines .exit)) (now (findings .exit)) r ⌝ }
 {
     let sheet = done.sheet;
     let found = done.findings;
-    if lines.len() < SHEET {
+    if lines.len() < SHEET_SIZE {
         return Answer::Refused(TOO_SHORT, 0);
     }
-    if findings.len() < 4 * found.count {
+    if findings.len() < FINDING_SIZE * found.count {
         return Answer::Refused(TOO_SHORT, 0);
     }
     put_sheet(lines, sheet);

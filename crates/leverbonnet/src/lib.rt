@@ -2,7 +2,6 @@
 // Relies on the reader, on a run's reduction, on what is printed, on the layouts and on the writes of `output`.
 
 mod calls;
-mod writing;
 
 ghost use mathlib.Core.Path.{_≡_};
 ghost use Rattle.output.specs.Answers.{packed};

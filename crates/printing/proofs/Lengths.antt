@@ -10,7 +10,7 @@ use Rattle.job.specs.Places.{runCountOf, runOf}
 use Rattle.job.specs.Troubles.{jobTrouble}
 use Rattle.job.proofs.ClearJobs.{job-clear, clear-run}
 use Rattle.job.proofs.WholeFile.{run-count}
-use Rattle.reduction.specs.Reducing.{chosenIn, reducedRun}
+use Rattle.reduction.specs.Reducing.{reduction, chosenIn, reducedRun}
 use Rattle.characters.specs.Numbers.{decimal}
 use Rattle.characters.proofs.Decimals.{decimal-short}
 use Rattle.characters.proofs.Texts.{joined-short}
@@ -20,7 +20,7 @@ use Rattle.text.proofs.Lengths.{run-short}
 use Rattle.printing.specs.Jobs.{refusedWord, refusalText, runsText, textOf, jobText}
 
 pub runs-short : (s : List ℕ) → jobTrouble s ≡ Clear → length (runsText s (runCountOf s)) ≤ 27088
-unfolding runsText reducedRun
+unfolding runsText reducedRun reduction chosenIn
 runs-short s clear =
     let all = joined-short (λ k. runText (reducedRun s k)) (runCountOf s) 1693 (λ k inside. run-short (runOf s k) (chosenIn s k) (clear-run s clear k inside)) in
     omega (arith, all, run-count s (job-clear s clear .file))

@@ -32,12 +32,7 @@ starred-isokinetic = (
   (isokinetic-stands _ refl refl, (isokinetic-stands _ refl refl, (isokinetic-stands _ refl refl, tt))),
 )
 
--- what holds of each of two lists holds of each of both together
-pub each-append : {A : Type 0} (P : A → Type 0) (xs ys : List A) → Each P xs → Each P ys → Each P (xs ++ ys)
-each-append P [] ys none rest = rest
-each-append P (x ∷ xs) ys (first, more) rest = (first, each-append P xs ys more rest)
-
--- what holds of whatever f makes of each holds of each that it makes
-pub each-map : {A B : Type 0} (P : B → Type 0) (f : A → B) (xs : List A) → Each (λ x. P (f x)) xs → Each P (map f xs)
-each-map P f [] none = tt
-each-map P f (x ∷ xs) (first, more) = (first, each-map P f xs more)
+-- what holds of whatever f makes of each, and of each of the rest, holds of each of both together
+pub each-mapped : {A B : Type 0} (P : B → Type 0) (f : A → B) (xs : List A) (ys : List B) → Each (λ x. P (f x)) xs → Each P ys → Each P (map f xs ++ ys)
+each-mapped P f [] ys none rest = rest
+each-mapped P f (x ∷ xs) ys (first, more) rest = (first, each-mapped P f xs ys more rest)

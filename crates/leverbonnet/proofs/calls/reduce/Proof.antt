@@ -4,7 +4,8 @@ use native.Mathlib.Omega.{arith}
 use mathlib.Core.Path.{_∙_, sym}
 use Rattle.reduction.specs.Reducing.{ClearRun}
 use Rattle.reduction.proofs.ClearJobs.{read-clear, count-of-runs, found-few, place-fits}
-use Rattle.leverbonnet.proofs.Outcomes.{came-refused, refused-by-reader, no-run, one-run, came-same, found-inside}
+use Rattle.reduction.proofs.Naming.{found-inside}
+use Rattle.leverbonnet.proofs.Outcomes.{came-refused, refused-by-reader, no-run, one-run, came-same}
 use Rattle.leverbonnet.proofs.calls.reduce.Statement.{statement}
 use Rattle.leverbonnet.proofs.calls.reduce.Tie as tie
 
