@@ -1,7 +1,7 @@
 -- The laws of the nearest root: the definition satisfies its two inequalities, only one number does, and both roots of the paper are it.
 use Prim.Native.Nat.{ℕ, zero, suc, _+_, _-_, _*_, _/_, _^_, _≤_, _<_}
 use mathlib.Core.Path.{_≡_, _∙_}
-use native.Mathlib.Nat.{mul-add, add-mul, add-assoc, mul-comm, mul-assoc, two-mul, mul-le-mul, pow-suc, pow-succ', le-trans, le-of-lt, lt-of-lt-of-le, lt-of-not-le, not-le-of-lt, le-div-iff-mul-le, le-antisymm, pos-of-ne-zero}
+use native.Mathlib.Nat.{mul-add, add-assoc, mul-assoc, two-mul, mul-le-mul, pow-suc, pow-succ', le-trans, le-of-lt, lt-of-lt-of-le, lt-of-not-le, not-le-of-lt, le-div-iff-mul-le, le-antisymm, pos-of-ne-zero}
 use native.Mathlib.Decide.{decLe}
 use native.Mathlib.Omega.{arith}
 use borrow.Author.Tests.{le-leb, lt-leb, eq-eqb, ne-eqb}

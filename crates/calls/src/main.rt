@@ -21,13 +21,16 @@ use leverbonnet::leverbonnet_sheet_text;
 use libc::STDIN_FILENO;
 use libc::STDOUT_FILENO;
 
+// How many bytes the header of a request has.
+const HEADER_SIZE: usize = 16;
+
 // Two bytes of a header as a number.
 fn word(low: u8, high: u8) -> u16 {
     low as u16 + 256 * (high as u16)
 }
 
 // The job's length in a header.
-fn job_length(header: &[u8; 16]) -> usize {
+fn job_length(header: &[u8; HEADER_SIZE]) -> usize {
     word(header[12], header[13]) as usize + 65536 * (word(header[14], header[15]) as usize)
 }
 
@@ -51,7 +54,7 @@ fn fill(output: &mut [u8], byte: u8) {
 }
 
 // The answer of the call that a header names.
-fn answer(header: &[u8; 16], job: &[u8], first: &mut [u8], second: &mut [u8]) -> u64 {
+fn answer(header: &[u8; HEADER_SIZE], job: &[u8], first: &mut [u8], second: &mut [u8]) -> u64 {
     let a = word(header[2], header[3]);
     let b = word(header[4], header[5]);
     let c = word(header[6], header[7]);
@@ -75,7 +78,7 @@ fn write_answer(answer: u64) {
 
 // Reads the job that a header announces, makes the call and writes the reply. The three buffers have the
 // lengths that the header gives.
-fn exchange(header: &[u8; 16], job: &mut [u8], first: &mut [u8], second: &mut [u8]) {
+fn exchange(header: &[u8; HEADER_SIZE], job: &mut [u8], first: &mut [u8], second: &mut [u8]) {
     io::read_full(STDIN_FILENO, job);
     fill(first, header[1]);
     fill(second, header[1]);
@@ -86,8 +89,8 @@ fn exchange(header: &[u8; 16], job: &mut [u8], first: &mut [u8], second: &mut [u
 
 // Answers one request, and says whether there was one.
 fn serve() -> bool {
-    let mut header = [0u8; 16];
-    if io::read_full(STDIN_FILENO, &mut header) < 16 {
+    let mut header = [0u8; HEADER_SIZE];
+    if io::read_full(STDIN_FILENO, &mut header) < HEADER_SIZE {
         return false;
     }
     let mut job = io::large_buffer();

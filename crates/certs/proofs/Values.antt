@@ -11,6 +11,7 @@ use Rattle.records.specs.declared.RunHeader.{RunHeader}
 use Rattle.records.specs.InRange.{NozzleOk, CertificateOk}
 use Rattle.values.specs.declared.Value.the-variants.{Known, Missing}
 use Rattle.values.specs.Promise.{Between, DiametersOk}
+use Rattle.values.proofs.Promise.{missing-between, known-between}
 use Rattle.certs.specs.declared.Lookup.{Lookup}
 use Rattle.certs.specs.declared.Lookup.the-variants.{Found, Nothing}
 use Rattle.certs.specs.declared.Chosen.{Chosen}
@@ -26,6 +27,9 @@ Within least greatest v = (least ≤ v) × (v ≤ greatest)
 
 in-range : (least greatest v : ℕ) → within least greatest v ≡ true → Within least greatest v
 in-range least greatest v e = (within-least least greatest v e, within-greatest least greatest v e)
+
+between : {least greatest v : ℕ} → Within least greatest v → Between least greatest (Known v)
+between (low, high) = known-between low high
 
 -- What is found is in range, of the kind that was looked for
 found-ok : (after : Bool) (kind : ℕ) (identity : Identity) (day : ℕ) (f : ℕ → Certificate) (n : ℕ) → CertificatesOk f n → (c : Certificate) → chosen after kind identity day f n ≡ Found c → (c .kind ≡ kind) × CertificateOk c
@@ -52,17 +56,11 @@ factor-within least greatest before after (b, b′) (a, a′) = go (holds (facto
     go true = (omega arith, omega arith)
     go false = (b, b′)
 
-known : (least greatest v : ℕ) → Within least greatest v → Between least greatest (Known v)
-known least greatest v h = record { known = λ n e. let same : v ≡ n = cc in rw same at h }
-
-missing : (least greatest : ℕ) → Between least greatest Missing
-missing least greatest = record { known = λ n e. let z : _≡_ {A = ℕ} 0 1 = cc in absurd (omega arith) }
-
 factor-from : (b a : Lookup) → ((c : Certificate) → b ≡ Found c → within leastFactor greatestFactor (c .first) ≡ true) → ((c : Certificate) → a ≡ Found c → within leastFactor greatestFactor (c .first) ≡ true) → Between leastFactor greatestFactor (factorFrom b a)
-factor-from Nothing a hb ha = missing _ _
-factor-from (Found b) Nothing hb ha = known _ _ _ (in-range _ _ _ (hb b refl))
+factor-from Nothing a hb ha = missing-between
+factor-from (Found b) Nothing hb ha = between (in-range _ _ _ (hb b refl))
 factor-from (Found b) (Found a) hb ha =
-    known _ _ _ (factor-within _ _ _ _ (in-range _ _ _ (hb b refl)) (in-range _ _ _ (ha a refl)))
+    between (factor-within _ _ _ _ (in-range _ _ _ (hb b refl)) (in-range _ _ _ (ha a refl)))
 
 -- Y lies in the range of factors
 pub factor-range : (ch : Chosen) → ChosenOk ch → Between leastFactor greatestFactor (factorOf ch)
@@ -70,8 +68,8 @@ unfolding factorOf
 factor-range ch ok = factor-from (ch .before) (ch .after) (ok .before) (ok .after)
 
 coefficient-from : (least greatest : ℕ) (l : Lookup) → ((c : Certificate) → l ≡ Found c → within least greatest (c .first) ≡ true) → Between least greatest (coefficientFrom l)
-coefficient-from least greatest Nothing h = missing _ _
-coefficient-from least greatest (Found c) h = known _ _ _ (in-range _ _ _ (h c refl))
+coefficient-from least greatest Nothing h = missing-between
+coefficient-from least greatest (Found c) h = between (in-range _ _ _ (h c refl))
 
 -- Cp lies in the range of coefficients
 pub coefficient-range : (ch : Chosen) → ChosenOk ch → Between leastCoefficient greatestCoefficient (coefficientOf ch)

@@ -7,12 +7,9 @@ use Rattle.values.specs.declared.Value.{Value}
 use Rattle.values.specs.declared.Value.the-variants.{Known, Missing}
 use Rattle.lines.specs.declared.Lines.{Lines}
 use Rattle.values.specs.Promise.{unlessZero}
-use Rattle.metering.specs.Metering.{dryVolume, moisture}
-use Rattle.stack.specs.Stack.{wetWeight, densityRoot, velocity}
-use Rattle.sampling.specs.Sampling.{isokinetic}
-use Rattle.metering.specs.Metering.{metering}
-use Rattle.stack.specs.Stack.{stack}
-use Rattle.sampling.specs.Sampling.{sampling}
+use Rattle.metering.specs.Metering.{dryVolume, moisture, metering}
+use Rattle.stack.specs.Stack.{wetWeight, densityRoot, velocity, stack}
+use Rattle.sampling.specs.Sampling.{isokinetic, sampling}
 use Rattle.lines.specs.Sheet.{lines}
 use Rattle.certs.specs.declared.Chosen.{Chosen}
 use Rattle.certs.specs.Factor.{factorOf, coefficientOf}

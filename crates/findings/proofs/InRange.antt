@@ -7,8 +7,7 @@ use Rattle.readings.specs.Ranges.{greatestAboveFirst, greatestPointCount, great
 use Rattle.readings.proofs.Ranges.{within-greatest}
 use Rattle.records.specs.declared.Run.{Run}
 use Rattle.lines.specs.declared.Lines.{Lines}
-use Rattle.metering.specs.Metering.{time, meteredVolume}
-use Rattle.metering.specs.Metering.{metering}
+use Rattle.metering.specs.Metering.{time, meteredVolume, metering}
 use Rattle.lines.specs.Sheet.{lines}
 use Rattle.certs.specs.declared.Chosen.{Chosen}
 use Rattle.rules.specs.declared.Beside.{Beside}

@@ -13,12 +13,9 @@ use Rattle.records.specs.Records.{noPoint, noSegment, noWeighing, sumTo}
 use Rattle.records.specs.InRange.{RunOk}
 use Rattle.arith.specs.Rounding.{roundDiv}
 use Rattle.values.specs.Promise.{unlessZero}
-use Rattle.metering.specs.Metering.{time, meteredVolume, allowance, leakLoss, leakLosses, correctedVolume, dryVolume, moisture}
-use Rattle.stack.specs.Stack.{wetWeight, densityRoot, velocity}
-use Rattle.sampling.specs.Sampling.{drawnGas, isokinetic, deduction, finalWeights, tares, catch}
-use Rattle.metering.specs.Metering.{metering}
-use Rattle.stack.specs.Stack.{stack}
-use Rattle.sampling.specs.Sampling.{sampling}
+use Rattle.metering.specs.Metering.{time, meteredVolume, allowance, leakLoss, leakLosses, correctedVolume, dryVolume, moisture, metering}
+use Rattle.stack.specs.Stack.{wetWeight, densityRoot, velocity, stack}
+use Rattle.sampling.specs.Sampling.{drawnGas, isokinetic, deduction, finalWeights, tares, catch, sampling}
 use Rattle.lines.specs.Sheet.{lines}
 use Rattle.certs.specs.declared.Lookup.the-variants.{Nothing}
 use Rattle.certs.specs.declared.Chosen.{Chosen}

@@ -10,8 +10,7 @@ use Rattle.values.specs.declared.Value.{Value}
 use Rattle.values.specs.declared.Value.the-variants.{Known, Missing}
 use Rattle.lines.specs.declared.Lines.{Lines}
 use Rattle.values.specs.Promise.{unlessZero}
-use Rattle.metering.specs.Metering.{dryVolume}
-use Rattle.metering.specs.Metering.{metering}
+use Rattle.metering.specs.Metering.{dryVolume, metering}
 use Rattle.lines.specs.Sheet.{lines}
 use Rattle.certs.specs.declared.Chosen.{Chosen}
 use Rattle.certs.specs.declared.comparison.Way.the-variants.{Same}

@@ -12,7 +12,7 @@ use lib.Seq.{take-all, take-take, length-take-le}
 use Rattle.readings.specs.Ranges.{greatestRunCount, greatestCertificateCount}
 use Rattle.fields.specs.declared.trouble.Trouble.{Trouble}
 use Rattle.fields.specs.declared.trouble.Trouble.the-variants.{Clear, At}
-use Rattle.fields.specs.Trouble.{first, troubleUnless, repeated, wrongSeconds, leftOver, Row, checks, from, upTo}
+use Rattle.fields.specs.Trouble.{first, troubleUnless, repeated, wrongSeconds, leftOver, Row, checks, from, upTo, recordTrouble}
 use Rattle.fields.proofs.FirstTrouble.{clear-left}
 use Rattle.records.specs.declared.Counts.{Counts}
 use Rattle.records.specs.declared.Point.{Point}
@@ -21,7 +21,6 @@ use Rattle.records.proofs.Sums.{sum-ext}
 use Rattle.records.specs.declared.RunHeader.{RunHeader}
 use Rattle.heads.specs.Values.{headerAt, certificatePlace, certificateOf, runHeaderSize}
 use Rattle.parts.specs.Values.{pointPlace, segmentPlace, pointTotal, segmentTotal, runEnd}
-use Rattle.fields.specs.Trouble.{recordTrouble}
 use Rattle.heads.specs.Rows.{certificateRows}
 use Rattle.parts.specs.Rows.{pointRows, segmentRows}
 use Rattle.fields.proofs.RecordTrouble.{whole-at}

@@ -46,7 +46,7 @@ run-clear s start lower e =
       balanced = eqb-true _ _ (both-right (totalSeconds (pointTotal s start (headerAt s start .counts))) _ seconds);
     }
 
--- its own 64 bytes lie within the file, and so does all of it
+-- its header lies within the file, and so does all of it
 pub header-fits : (s : List ℕ) (start lower : ℕ) → runTrouble s start lower ≡ Clear → start + runHeaderSize ≤ length s
 header-fits s start lower e = complete-at s start runHeaderSize _ (lit≤ tt) (run-clear s start lower e .header)
 

@@ -2,14 +2,13 @@
 use mathlib.Core.Path.{_≡_, refl}
 use mathlib.Core.List.{List, [], _∷_, map}
 use Rattle.fields.specs.Numbers.{u16At, u32At, i16At}
-use Rattle.fields.specs.Trouble.{first, checks, upTo}
+use Rattle.fields.specs.Trouble.{first, checks, upTo, recordTrouble}
 use Rattle.readings.specs.Ranges.{within, signedWithin}
 use Rattle.records.specs.Records.{sameIdentity, sumTo}
 use Rattle.records.specs.Worked.{workedCertificates, workedRun}
 use Rattle.arrays.specs.Arrays.{padded}
 use Rattle.heads.specs.Values.{certificateOf}
 use Rattle.parts.specs.Values.{runAt}
-use Rattle.fields.specs.Trouble.{recordTrouble}
 use Rattle.job.specs.Places.{runStart, runOf}
 use Rattle.job.specs.Troubles.{anyTo, partsTrouble, runTrouble, numberBefore, jobTrouble}
 use Rattle.job.specs.Reading.{readJob}

@@ -12,15 +12,13 @@ use Rattle.parts.specs.Values.{pointSize, segmentSize, weighingSize}
 use Rattle.readings.specs.Ranges.{leastPointCount, greatestPointCount, leastSegmentCount, greatestSegmentCount, greatestWeighingCount, greatestCertificateCount}
 use Rattle.fields.specs.declared.trouble.Trouble.{Trouble}
 use Rattle.fields.specs.declared.trouble.Trouble.the-variants.{Clear, At}
-use Rattle.fields.specs.Trouble.{first, troubleUnless, incomplete, repeated, wrongSeconds, leftOver, Row, checks, troublePlace, from, upTo}
+use Rattle.fields.specs.Trouble.{first, troubleUnless, incomplete, repeated, wrongSeconds, leftOver, Row, checks, troublePlace, from, upTo, recordTrouble}
 use Rattle.fields.proofs.FirstTrouble.{each, clear-left, each-clear, checks-reach}
 use Rattle.readings.proofs.Ranges.{within-greatest}
 use Rattle.records.specs.declared.Counts.{Counts}
 use Rattle.heads.proofs.InRange.{header-ok}
 use Rattle.heads.specs.Values.{headerAt, certificatePlace, fileHeaderSize, certificateSize, runHeaderSize}
-use Rattle.fields.specs.Trouble.{recordTrouble}
-use Rattle.heads.specs.Rows.{headerRows, headerTrouble}
-use Rattle.fields.proofs.RecordTrouble.{good-at}
+use Rattle.heads.specs.Rows.{headerTrouble}
 use Rattle.job.specs.Places.{runCountOf, runStart}
 use Rattle.job.specs.Troubles.{fileTrouble, repeats, goodSeconds, entryTrouble, partsTrouble, numberBefore, runTrouble, runsTrouble, jobTrouble}
 use Rattle.job.proofs.ClearRuns.{run-clear}

@@ -6,14 +6,13 @@ use lib.Dec.{leb, ltb, eqb}
 use lib.ListN.{length}
 use Rattle.fields.specs.declared.trouble.Trouble.{Trouble}
 use Rattle.fields.specs.Numbers.{byteAt, u16At}
-use Rattle.fields.specs.Trouble.{first, troubleUnless, wrongMark, wrongVersion, repeated, wrongSeconds, leftOver, Row, count, upTo}
+use Rattle.fields.specs.Trouble.{first, troubleUnless, wrongMark, wrongVersion, repeated, wrongSeconds, leftOver, Row, count, upTo, recordTrouble}
 use Rattle.readings.specs.Ranges.{certificateCount, runCount, totalSeconds}
 use Rattle.records.specs.declared.Certificate.{Certificate}
 use Rattle.records.specs.declared.Counts.{Counts}
 use Rattle.records.specs.Records.{sameIdentity}
 use Rattle.heads.specs.Values.{headerAt, certificatePlace, certificateOf, fileHeaderSize, runHeaderSize}
 use Rattle.parts.specs.Values.{pointPlace, segmentPlace, pointTotal, segmentTotal}
-use Rattle.fields.specs.Trouble.{recordTrouble}
 use Rattle.heads.specs.Rows.{certificateTrouble, headerTrouble}
 use Rattle.parts.specs.Rows.{pointsTrouble, segmentsTrouble, weighingsTrouble}
 use Rattle.job.specs.Places.{certificateCountOf, runCountOf, runStart}

@@ -4,8 +4,7 @@ use mathlib.Core.Path.{_≡_, refl, sym, _∙_, ap}
 use mathlib.Core.Bool.{Bool, true, false}
 use mathlib.Core.List.{List}
 use native.Mathlib.Omega.{arith}
-use borrow.Author.Tests.{le-leb, lt-leb, leb-true}
-use lib.Dec.{leb}
+use borrow.Author.Tests.{le-leb, lt-leb}
 use lib.ListN.{length, take, replicate, length-append}
 use Rattle.arrays.specs.Arrays.{filledTo}
 use Rattle.arrays.proofs.Filled.{filled-front}
@@ -14,7 +13,7 @@ use Rattle.output.specs.declared.Answer.the-variants.{Done, Refused}
 use Rattle.output.specs.Splice.{spliced}
 use Rattle.traverse.specs.declared.Layout.{Layout}
 use Rattle.traverse.specs.Layout.{mostDistances, IsLayout}
-use Rattle.layouts.specs.Outcomes.{ifRoom, distanceSize, lentOutcome, layoutOutcome, distanceBytes, layoutAnswer, layoutOut, Answered}
+use Rattle.layouts.specs.Outcomes.{distanceSize, lentOutcome, layoutOutcome, distanceBytes, layoutAnswer, layoutOut, Answered}
 
 -- n distances and an output that is too short for them
 pub refused-short : (ds old : List ℕ) {n : ℕ} → length ds ≡ n → length old < distanceSize * n → Answered (lentOutcome ds (length old)) old old (Refused 9 0)

@@ -5,6 +5,7 @@ use mathlib.Core.Bool.{Bool, true, false}
 use mathlib.Core.List.{List}
 use lib.Dec.{leb}
 use lib.ListN.{length, getD}
+use Rattle.output.specs.Answers.{shortOutput, outsideRanges}
 use Rattle.output.specs.declared.Answer.{Answer}
 use Rattle.output.specs.declared.Answer.the-variants.{Done, Refused}
 use Rattle.output.specs.Bytes.{le, joined}
@@ -24,7 +25,7 @@ distanceSize = 4
 -- the distances if there is room for them, or 9 at 0
 abbrev pub ifRoom : Bool → List ℕ → LayoutOutcome
 ifRoom true ds = laid ds
-ifRoom false ds = notLaid 9 0
+ifRoom false ds = notLaid shortOutput 0
 
 -- a lent output needs room for each distance
 unfoldable pub lentOutcome : List ℕ → ℕ → LayoutOutcome
@@ -33,7 +34,7 @@ lentOutcome ds room = ifRoom (leb (distanceSize * length ds) room) ds
 -- a layout outside its ranges is 11 at 0, and that comes first
 unfoldable pub layoutOutcome : Bool → List ℕ → ℕ → LayoutOutcome
 layoutOutcome true ds room = lentOutcome ds room
-layoutOutcome false ds room = notLaid 11 0
+layoutOutcome false ds room = notLaid outsideRanges 0
 
 -- a round layout: points on the diameter, diameter in 0.1 in, nozzle in 0.001 in
 unfoldable pub roundOutcome : ℕ → ℕ → ℕ → ℕ → LayoutOutcome

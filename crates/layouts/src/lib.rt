@@ -19,11 +19,6 @@ ghost use Rattle.layouts.specs.Outcomes.{Answered, lentOutcome, roundOut
 // Bytes of a distance in the output.
 const DISTANCE_SIZE: usize = 4;
 
-// The refusals of a layout: outside its ranges, and a lent output that is too short. Both are at place 0.
-const OUTSIDE: u32 = 11;
-
-const TOO_SHORT: u32 = 9;
-
 // The first `count` distances, one after another from the front.
 fn put_distances(distances: [u32; MOST_DISTANCES], count: usize, out: &mut [u8])
     requires { ⌜ (count ≤ mostDistances) × (distanceSize * count ≤ length (now out)) ⌝ }
@@ -44,7 +39,7 @@ fn put_layout(layout: Layout, out: &mut [u8]) -> Answer
     let count = layout.count;
     let distances = layout.distances;
     if out.len() < DISTANCE_SIZE * count {
-        return Answer::Refused(TOO_SHORT, 0);
+        return Answer::Refused(Answer::SHORT_OUTPUT, 0);
     }
     put_distances(distances, count, out);
     Answer::Done((DISTANCE_SIZE * count) as u32)
@@ -56,7 +51,7 @@ pub fn round_layout(points: u16, diameter: u16, nozzle: u16, out: &mut [u8]) -> 
     ensures { λ r. ⌜ Answered (roundOutcome points diameter nozzle (length (now (out .entry)))) (now (out .entry)) (now (out .exit)) r ⌝ }
 {
     if !round_fits(points, diameter, nozzle) {
-        return Answer::Refused(OUTSIDE, 0);
+        return Answer::Refused(Answer::OUTSIDE_RANGES, 0);
     }
     put_layout(round(points, diameter, nozzle), out)
 }
@@ -66,7 +61,7 @@ pub fn rectangle_layout(points: u16, first: u16, second: u16, out: &mut [u8]) ->
     ensures { λ r. ⌜ Answered (rectangleOutcome points first second (length (now (out .entry)))) (now (out .entry)) (now (out .exit)) r ⌝ }
 {
     if !rectangle_fits(points, first, second) {
-        return Answer::Refused(OUTSIDE, 0);
+        return Answer::Refused(Answer::OUTSIDE_RANGES, 0);
     }
     put_layout(rectangle(points, first, second), out)
 }

@@ -15,7 +15,7 @@ use Rattle.reduction.specs.declared.Which.the-variants.{Index, NoRun}
 use Rattle.reduction.specs.Reducing.{reducedRun, runNamed}
 use Rattle.output.specs.declared.Answer.{Answer}
 use Rattle.output.specs.declared.Answer.the-variants.{Done, Refused}
-use Rattle.output.specs.Answers.{packed}
+use Rattle.output.specs.Answers.{shortOutput, unknownRun, packed}
 use Rattle.output.specs.Splice.{spliced}
 use Rattle.printing.specs.Printing.{printing, printingAnswer, printingOut}
 use Rattle.layouts.specs.Outcomes.{LayoutOutcome, layoutAnswer, layoutOut}
@@ -28,11 +28,11 @@ pub data Outcome : Type 0 where
 
 -- 9: a lent output is too short for the lines, or for the findings
 unfoldable pub handed : Reduced → ℕ → ℕ → Outcome
-handed r lines findings = cond (ltb lines sheetSize || ltb findings (findingSize * r .findings .count)) (refused 9 0) (reduced r)
+handed r lines findings = cond (ltb lines sheetSize || ltb findings (findingSize * r .findings .count)) (refused shortOutput 0) (reduced r)
 
 -- 10: no run of that number
 abbrev pub ofRun : List ℕ → Which → ℕ → ℕ → Outcome
-ofRun s NoRun lines findings = refused 10 0
+ofRun s NoRun lines findings = refused unknownRun 0
 ofRun s (Index k) lines findings = handed (reducedRun s k) lines findings
 
 -- the reader's 1 to 8 come first
@@ -92,7 +92,7 @@ countAnswer s = countOf (jobTrouble s) s
 -- leverbonnet_run_number: an index past the last is refused 10
 abbrev pub numberAt : Trouble → List ℕ → ℕ → Answer
 numberAt (At number place) s index = Refused number place
-numberAt Clear s index = cond (leb (runCountOf s) index) (Refused 10 0) (Done (runOf s index .header .number))
+numberAt Clear s index = cond (leb (runCountOf s) index) (Refused unknownRun 0) (Done (runOf s index .header .number))
 
 unfoldable pub numberAnswer : List ℕ → ℕ → Answer
 numberAnswer s index = numberAt (jobTrouble s) s index

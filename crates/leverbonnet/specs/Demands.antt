@@ -8,14 +8,15 @@ use Rattle.certs.specs.Choosing.{SameForRun}
 use Rattle.heads.specs.Values.{certificateOf}
 use Rattle.job.specs.Places.{certificateCountOf, runCountOf, runOf}
 use Rattle.job.specs.Troubles.{jobTrouble}
+use Rattle.output.specs.Answers.{shortOutput, unknownRun}
 use Rattle.writing.specs.Bytes.{sheetSize, findingSize}
 use Rattle.reduction.specs.Reducing.{reducedRun}
 
 -- Demand 1: why a call is refused. The reader's refusal at its place; 10 where no run has the number; 9 where one has it and an output is too short
 pub data ByTable (s : List ℕ) (run lines findings : ℕ) : ℕ → ℕ → Type 0 where
   reader : {number place : ℕ} → jobTrouble s ≡ At number place → ByTable s run lines findings number place
-  noRun : jobTrouble s ≡ Clear → ((k : ℕ) → k < runCountOf s → runOf s k .header .number ≡ run → ⊥) → ByTable s run lines findings 10 0
-  tooShort : (k : ℕ) → jobTrouble s ≡ Clear → k < runCountOf s → runOf s k .header .number ≡ run → (lines < sheetSize) ⊎ (findings < findingSize * reducedRun s k .findings .count) → ByTable s run lines findings 9 0
+  noRun : jobTrouble s ≡ Clear → ((k : ℕ) → k < runCountOf s → runOf s k .header .number ≡ run → ⊥) → ByTable s run lines findings unknownRun 0
+  tooShort : (k : ℕ) → jobTrouble s ≡ Clear → k < runCountOf s → runOf s k .header .number ≡ run → (lines < sheetSize) ⊎ (findings < findingSize * reducedRun s k .findings .count) → ByTable s run lines findings shortOutput 0
 
 -- Demand 3: two jobs that are both read hold the same record for a run of that number, and the same certificates for the meter, pitot tube and nozzle which it names
 pub record SameRun (s t : List ℕ) (run : ℕ) : Type 0 where

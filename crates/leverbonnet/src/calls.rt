@@ -15,11 +15,6 @@ ghost use Prim.Native.Nat.{_≤_};
 ghost use Rattle.findings.specs.Listing.{mostFindings};
 ghost use Rattle.leverbonnet.specs.Calls.{success, Handed, Answers, countAnswer, numberAnswer};
 
-// No run of that number, and a lent output that is too short.
-const NO_RUN: u32 = 10;
-
-const TOO_SHORT: u32 = 9;
-
 // How many findings, and 65,536 more if the run is accepted.
 fn success(count: usize, accepted: bool) -> u32
     requires { ⌜ count ≤ mostFindings ⌝ }
@@ -39,10 +34,10 @@ fn hand_over(done: Reduced, lines: &mut [u8], findings: &mut [u8]) -> Answer
     let sheet = done.sheet;
     let found = done.findings;
     if lines.len() < SHEET_SIZE {
-        return Answer::Refused(TOO_SHORT, 0);
+        return Answer::Refused(Answer::SHORT_OUTPUT, 0);
     }
     if findings.len() < FINDING_SIZE * found.count {
-        return Answer::Refused(TOO_SHORT, 0);
+        return Answer::Refused(Answer::SHORT_OUTPUT, 0);
     }
     put_sheet(lines, sheet);
     put_findings(findings, found);
@@ -60,7 +55,7 @@ pub fn reduce(job: &[u8], run: u16, lines: &mut [u8], findings: &mut [u8]) -> An
     }
     let which = find_run(job, read, run);
     let Which::Index(k) = which else {
-        return Answer::Refused(NO_RUN, 0);
+        return Answer::Refused(Answer::UNKNOWN_RUN, 0);
     };
     hand_over(reduction::reduce(job, read, k), lines, findings)
 }
@@ -86,7 +81,7 @@ pub fn run_number(job: &[u8], index: u16) -> Answer
     }
     let k = index as usize;
     if read.runs <= k {
-        return Answer::Refused(NO_RUN, 0);
+        return Answer::Refused(Answer::UNKNOWN_RUN, 0);
     }
     let starts = read.starts;
     Answer::Done(numbers::u16_at(numbers::tail(job, starts[k]), 0) as u32)

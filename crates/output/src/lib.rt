@@ -16,6 +16,14 @@ pub enum Answer {
 }
 
 impl Answer {
+    // Why a call is refused, apart from its file: a lent output that is too short, no run of that number, a traverse layout
+    // outside its ranges.
+    pub const SHORT_OUTPUT: u32 = 9;
+
+    pub const UNKNOWN_RUN: u32 = 10;
+
+    pub const OUTSIDE_RANGES: u32 = 11;
+
     // The answer as the caller sees it: the refusal's number in the high 32 bits, 0 where there is none.
     pub fn packed(self) -> u64
         ensures { λ r. ⌜ r ≡ packed self ⌝ }

@@ -8,6 +8,7 @@ use lib.ListN.{length}
 use Rattle.fields.specs.declared.trouble.Trouble.{Trouble}
 use Rattle.fields.specs.declared.trouble.Trouble.the-variants.{Clear, At}
 use Rattle.job.specs.Troubles.{jobTrouble}
+use Rattle.output.specs.Answers.{shortOutput}
 use Rattle.output.specs.declared.Answer.{Answer}
 use Rattle.output.specs.declared.Answer.the-variants.{Done, Refused}
 use Rattle.output.specs.Splice.{spliced}
@@ -20,7 +21,7 @@ pub data Printing : Type 0 where
 
 -- 9: the output is shorter than what the program prints of the job
 unfoldable pub ifRoomy : List ℕ → ℕ → Printing
-ifRoomy s room = cond (ltb room (length (jobText s))) (unprinted 9 0) (printed (jobText s))
+ifRoomy s room = cond (ltb room (length (jobText s))) (unprinted shortOutput 0) (printed (jobText s))
 
 -- the reader's 1 to 8 come first
 abbrev pub unlessTrouble : Trouble → List ℕ → ℕ → Printing

@@ -9,9 +9,6 @@ use output::Answer;
 ghost use Rattle.reduction.specs.Reducing.{ClearJob};
 ghost use Rattle.printing.specs.Printing.{PrintsClear, Prints};
 
-// A lent output that is shorter than the text.
-const TOO_SHORT: u32 = 9;
-
 // The text of a job without trouble, by way of a buffer with room for any: how long it is shows only once it is
 // written, and an output that turns out too short stays as it was.
 fn put_by_way(s: &[u8], job: Job, out: &mut [u8]) -> Answer
@@ -21,7 +18,7 @@ fn put_by_way(s: &[u8], job: Job, out: &mut [u8]) -> Answer
     let mut way = [0u8; ROOM];
     let end = put_runs(s, job, &mut way);
     if out.len() < end {
-        return Answer::Refused(TOO_SHORT, 0);
+        return Answer::Refused(Answer::SHORT_OUTPUT, 0);
     }
     put_word(out, 0, &way[..end]);
     Answer::Done(end as u32)

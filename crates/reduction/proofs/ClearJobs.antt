@@ -19,7 +19,6 @@ use Rattle.job.proofs.ClearJobs.{job-clear, clear-run, clear-certificate, run-w
 use Rattle.job.proofs.Reach.{places}
 use Rattle.job.proofs.WholeFile.{run-count}
 use Rattle.fields.specs.Numbers.{u16At}
-use Rattle.heads.specs.Values.{certificateOf}
 use Rattle.parts.specs.Values.{runAt, RunWithin}
 use Rattle.reduction.specs.declared.Which.{Which}
 use Rattle.reduction.specs.declared.Which.the-variants.{Index, NoRun}

@@ -6,8 +6,8 @@ use mathlib.Core.Logic.{⊎-elim}
 use native.Mathlib.Nat.{add-assoc, suc-mul, zero-mul, mul-le-mul-right, eq-or-lt-of-le, le-of-suc-le-suc, not-suc-le-zero}
 use native.Mathlib.Numerals.{add-one}
 use native.Mathlib.Omega.{arith}
-use lib.ListN.{length, getD, set, replicate, length-append, List·getD-append}
-use lib.Seq.{set-append-seam, append-snoc, getD-append-add}
+use lib.ListN.{length, getD, set, length-append, List·getD-append}
+use lib.Seq.{getD-append-add}
 use Rattle.arrays.proofs.Filled.{Filled, filled-more}
 use Rattle.traverse.specs.Layout.{eachTo, mostDistances}
 

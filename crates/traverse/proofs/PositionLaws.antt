@@ -10,7 +10,7 @@ use borrow.Author.Tests.{leb-true, ltb-true, eqb-true, le-leb, lt-leb}
 use lib.Dec.{leb, ltb, eqb}
 use Rattle.arith.specs.Root.{grown, floorRoot, nearestRoot}
 use Rattle.arith.proofs.Root.{nearest-is, root-le}
-use Rattle.readings.specs.Ranges.{within, diameterPoints}
+use Rattle.readings.specs.Ranges.{within, diameterPoints, leastDiameterPoints, greatestDiameterPoints}
 use Rattle.readings.proofs.Ranges.{both-left, both-right, within-least, within-greatest}
 use Rattle.traverse.specs.Positions.{IsPosition, nearPosition, position}
 use Rattle.traverse.proofs.Tests.{allBelow, all-below}
@@ -26,8 +26,8 @@ points-of n e =
     let range : within 2 24 n ≡ true = both-right (eqb (n % 2) 0) (within 2 24 n) e in
     record {
       even = eqb-true _ _ (both-left (eqb (n % 2) 0) (within 2 24 n) e);
-      least = within-least 2 24 n range;
-      most = within-greatest 2 24 n range;
+      least = within-least leastDiameterPoints greatestDiameterPoints n range;
+      most = within-greatest leastDiameterPoints greatestDiameterPoints n range;
     }
 
 -- A point further in stands no nearer to the wall: of one point, the rule leaves one number

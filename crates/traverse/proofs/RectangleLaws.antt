@@ -18,10 +18,10 @@ use Rattle.traverse.proofs.Tests.{allOf, all-of}
 -- a rectangular layout inside its ranges
 pub record RectangleOk (n first second : ℕ) : Type 0 where
   pub points : gridPoints n ≡ true
-  pub firstLeast : 1 ≤ first
-  pub firstMost : first ≤ 9999
-  pub secondLeast : 1 ≤ second
-  pub secondMost : second ≤ 9999
+  pub firstLeast : leastSide ≤ first
+  pub firstMost : first ≤ greatestSide
+  pub secondLeast : leastSide ≤ second
+  pub secondMost : second ≤ greatestSide
 
 pub rectangle-ok : (n first second : ℕ) → rectangleFits n first second ≡ true → RectangleOk n first second
 unfolding rectangleFits
@@ -153,7 +153,7 @@ count-reached n c e few reached = go (decLe (gridOf n .larger) c)
         absurd (omega (arith, low, square))
 
 -- A center, within what the code can hold
-pub center-product : {side i cells : ℕ} → side ≤ 9999 → i ≤ cells → cells ≤ 7 → (2 * i - 1) * 100 * side ≤ 1300 * 9999
+pub center-product : {side i cells : ℕ} → side ≤ greatestSide → i ≤ cells → cells ≤ 7 → (2 * i - 1) * 100 * side ≤ 1300 * greatestSide
 center-product {side} {i} {cells} narrow inside few =
     let odd : (2 * i - 1) * 100 ≤ 1300 = omega arith in
     mul-le-mul odd narrow

@@ -9,7 +9,7 @@ use borrow.Author.Tests.{le-leb, lt-leb, eq-eqb, ne-eqb}
 use lib.Dec.{eqb, lit<}
 use Rattle.arith.specs.Rounding.{roundDiv, IsRounded}
 use Rattle.arith.proofs.Rounding.{round-is, round-mono}
-use Rattle.readings.specs.Ranges.{diameterPoints, layoutDiameter, nozzleDiameter}
+use Rattle.readings.specs.Ranges.{diameterPoints, layoutDiameter, leastLayoutDiameter, greatestLayoutDiameter, nozzleDiameter, leastNozzleDiameter, greatestNozzleDiameter}
 use Rattle.readings.proofs.Ranges.{both-left, both-right, within-least, within-greatest}
 use Rattle.traverse.specs.Positions.{position}
 use Rattle.traverse.specs.Round.{roundFits, margin, kept, measured, distance}
@@ -18,9 +18,9 @@ use Rattle.traverse.proofs.PositionLaws.{points-of, position-mono, posi
 -- a round layout inside its ranges
 pub record RoundOk (n diameter nozzle : ℕ) : Type 0 where
   pub points : diameterPoints n ≡ true
-  pub diameterLeast : 120 ≤ diameter
-  pub diameterMost : diameter ≤ 9999
-  pub nozzleMost : nozzle ≤ 1000
+  pub diameterLeast : leastLayoutDiameter ≤ diameter
+  pub diameterMost : diameter ≤ greatestLayoutDiameter
+  pub nozzleMost : nozzle ≤ greatestNozzleDiameter
 
 pub round-ok : (n d z : ℕ) → roundFits n d z ≡ true → RoundOk n d z
 unfolding roundFits
@@ -29,9 +29,9 @@ round-ok n d z e =
     let wide : layoutDiameter d ≡ true = both-left (layoutDiameter d) (nozzleDiameter z) rest in
     record {
       points = both-left (diameterPoints n) (layoutDiameter d && nozzleDiameter z) e;
-      diameterLeast = within-least 120 9999 d wide;
-      diameterMost = within-greatest 120 9999 d wide;
-      nozzleMost = within-greatest 100 1000 z (both-right (layoutDiameter d) (nozzleDiameter z) rest);
+      diameterLeast = within-least leastLayoutDiameter greatestLayoutDiameter d wide;
+      diameterMost = within-greatest leastLayoutDiameter greatestLayoutDiameter d wide;
+      nozzleMost = within-greatest leastNozzleDiameter greatestNozzleDiameter z (both-right (layoutDiameter d) (nozzleDiameter z) rest);
     }
 
 -- The two margins
@@ -44,7 +44,7 @@ unfolding margin
 margin-wide d z wide = rw (lt-leb d 240 wide)
 
 -- A margin is at most 1 in, so no more than half a stack
-pub margin-most : (d z : ℕ) → z ≤ 1000 → margin d z ≤ 1000
+pub margin-most : (d z : ℕ) → z ≤ greatestNozzleDiameter → margin d z ≤ 1000
 margin-most d z small = go (decLe d 240)
   where
     go : Dec (d ≤ 240) → margin d z ≤ 1000

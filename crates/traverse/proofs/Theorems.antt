@@ -13,7 +13,7 @@ use Rattle.traverse.specs.Positions.{IsPosition, nearPosition, position,
 use Rattle.traverse.specs.Round.{roundFits, margin, measured, distance, roundLayout}
 use Rattle.traverse.specs.Rectangle.{rectangleFits, firstCells, secondCells, center, rectangleLayout}
 use Rattle.traverse.proofs.ListLaws.{each-length, each-at}
-use Rattle.traverse.proofs.PositionLaws.{points-of, position-is, position-unique, position-mirror}
+use Rattle.traverse.proofs.PositionLaws.{points-of, position-is, position-unique}
 use Rattle.traverse.proofs.RoundLaws.{round-ok, distance-least, distance-most, distance-mono, distance-mirror}
 use Rattle.traverse.proofs.RectangleLaws.{rectangle-ok, cells-ok, Spread, spread}
 use Rattle.traverse.proofs.RowLaws.{row, row-length, rows-at}

@@ -7,7 +7,7 @@ use arith::smaller;
 ghost use mathlib.Core.Path.{_≡_};
 ghost use mathlib.Core.Bool.{true};
 ghost use Prim.Native.Nat.{_*_, _≤_};
-ghost use Rattle.readings.specs.Ranges.{diameterPoints};
+ghost use Rattle.readings.specs.Ranges.{diameterPoints, greatestNozzleDiameter};
 ghost use Rattle.traverse.specs.Layout.{AtMost};
 ghost use Rattle.traverse.specs.Positions.{nearPosition, position};
 ghost use Rattle.traverse.specs.Round.{roundFits, margin, kept, distance};
@@ -43,7 +43,7 @@ fn position(n: u64, i: u64) -> u64
 
 // How far a point stays from the walls, 0.001 in.
 fn margin(diameter: u64, nozzle: u64) -> u64
-    requires { ⌜ nozzle ≤ 1000 ⌝ }
+    requires { ⌜ nozzle ≤ greatestNozzleDiameter ⌝ }
     ensures { λ r. ⌜ AtMost 1000 (margin diameter nozzle) r ⌝ }
 {
     if diameter <= NARROW {

@@ -4,6 +4,7 @@ use arith::round_div;
 ghost use mathlib.Core.Path.{_≡_};
 ghost use mathlib.Core.Bool.{true};
 ghost use Prim.Native.Nat.{_≤_};
+ghost use Rattle.readings.specs.Ranges.{leastSide, greatestSide};
 ghost use Rattle.readings.specs.Grids.{gridPoints};
 ghost use Rattle.traverse.specs.Layout.{AtMost};
 ghost use Rattle.traverse.specs.Rectangle.{gridOf, firstCells, secondCells, center};
@@ -49,7 +50,7 @@ pub fn second_cells(points: u16, first: u16, second: u16) -> u64
 
 // The center of cell i along a side, 0.001 in.
 pub fn center(side: u64, cells: u64, i: u64) -> u64
-    requires { ⌜ (1 ≤ side) × (side ≤ 9999) × (1 ≤ cells) × (cells ≤ 7) × (1 ≤ i) × (i ≤ cells) ⌝ }
+    requires { ⌜ (leastSide ≤ side) × (side ≤ greatestSide) × (1 ≤ cells) × (cells ≤ 7) × (1 ≤ i) × (i ≤ cells) ⌝ }
     ensures { λ r. ⌜ AtMost 999900 (center side cells i) r ⌝ }
 {
     round_div((2 * i - 1) * 100 * side, 2 * cells)

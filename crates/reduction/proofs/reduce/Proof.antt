@@ -1,10 +1,9 @@
 -- The run is read at its place and worked with the certificates that the job holds.
 use native.Mathlib.Omega.{arith}
-use mathlib.Core.Path.{_∙_, ap}
-use Rattle.reduction.specs.Reducing.{reduction, reducedRun}
+use mathlib.Core.Path.{_∙_, ap, _≡_}
+use Rattle.reduction.specs.Reducing.{reduction, reducedRun, ReducibleFrom, ClearRun}
 use Rattle.reduction.proofs.ClearJobs.{few-runs, count-of-runs, count-of-certificates, start-of, lies-within, workable}
 use Prim.Native.Nat.{ℕ}
-use mathlib.Core.Path.{_≡_}
 use mathlib.Core.List.{List}
 use lib.ListN.{getD}
 use Rattle.records.specs.declared.Run.{Run}
@@ -13,7 +12,6 @@ use Rattle.job.specs.declared.Job.{Job}
 use Rattle.job.specs.Places.{runOf}
 use Rattle.parts.specs.Values.{runAt}
 use Rattle.reduction.specs.declared.Reduced.{Reduced}
-use Rattle.reduction.specs.Reducing.{ReducibleFrom, ClearRun}
 use Rattle.reduction.proofs.reduce.Statement.{statement}
 use Rattle.reduction.proofs.reduce.Tie as tie
 

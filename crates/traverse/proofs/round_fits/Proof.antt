@@ -1,5 +1,5 @@
 -- The checks in order; the first that fails decides.
-use mathlib.Core.Path.{_∙_, sym}
+use mathlib.Core.Path.{_∙_}
 use borrow.Author.Needs.{needs}
 use borrow.Author.Tests.{not-true, not-false}
 use Rattle.traverse.specs.Round.{roundFits}

@@ -1,4 +1,4 @@
--- The 64 bytes, then the number, then what follows.
+-- The header, then the number, then what follows.
 use Prim.Native.Nat.{_+_, _≤_, _<_}
 use mathlib.Core.Path.{_∙_, sym, ap, subst}
 use borrow.Author.Tests.{le-ltb, lt-ltb}
