@@ -9,7 +9,7 @@ use Rattle.records.specs.declared.Certificate.{Certificate}
 use Rattle.records.specs.declared.Identity.{Identity}
 use Rattle.records.specs.declared.RunHeader.{RunHeader}
 use Rattle.records.specs.InRange.{NozzleOk, CertificateOk}
-use Rattle.values.specs.declared.Value.the-variants.{Known, Missing}
+use Rattle.values.specs.declared.Value.the-variants.{Known}
 use Rattle.values.specs.Promise.{Between, DiametersOk}
 use Rattle.values.proofs.Promise.{missing-between, known-between}
 use Rattle.certs.specs.declared.Lookup.{Lookup}

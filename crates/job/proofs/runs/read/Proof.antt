@@ -1,5 +1,5 @@
 -- The loop keeps where it stands, the number before, and that the runs passed are clear and noted; it stops at the first that is not.
-use Prim.Native.Nat.{ℕ, _+_, _-_, _≤_}
+use Prim.Native.Nat.{ℕ, _+_, _-_, _≤_, _<_}
 use mathlib.Core.Path.{_≡_, refl, sym, _∙_, ap, ap₂, subst}
 use mathlib.Core.List.{List}
 use native.Mathlib.Nat.{le-antisymm}
@@ -111,7 +111,8 @@ returns-2 c =
     let s = c .before .before .before .before .before .args .s .now in
     let done = le-antisymm (passed .0) left in
     let at = c .before .before .before .loop .at in
-    let over : At leftOver at ≡ endTrouble s at = rw (lt-leb _ _ (c .before .if1 .taken)) in
+    let more : at < length s = c .before .if1 .taken in
+    let over : At leftOver at ≡ endTrouble s at = rw (lt-leb _ _ more) in
     walk-stops _ _ (c .stopped2 .ensures) refl
     (first-passed (ends _ _ _ (passed .4) (passed .0) left) refl (over ∙ ap (endTrouble s) (passed .2 ∙ ap (runStart _) done)))
 
@@ -122,7 +123,9 @@ returns-3 c =
     let passed = c .before .before .loop .inv in
     let s = c .before .before .before .before .args .s .now in
     let done = le-antisymm (passed .0) left in
-    let whole : Clear ≡ endTrouble s (c .before .before .loop .at) = rw (le-leb _ _ (c .if1 .left)) in
+    let at = c .before .before .loop .at in
+    let past : length s ≤ at = c .if1 .left in
+    let whole : Clear ≡ endTrouble s at = rw (le-leb _ _ past) in
     walk-ends _ _ (passed .5 ∙ ap (padded greatestRunCount 0 _) done)
     (first-passed (ends _ _ _ (passed .4) (passed .0) left) refl (whole ∙ ap (endTrouble s) (passed .2 ∙ ap (runStart _) done)))
 
