@@ -32,8 +32,9 @@ fn good_seconds(s: &[u8], start: usize, n: Counts) -> bool
     let points = n.points as usize;
     let segments = n.segments as usize;
     let at = start + header::SIZE;
-    let by_points = point::seconds(numbers::tail(s, at), points);
-    let by_segments = segment::seconds(numbers::tail(s, at + point::SIZE * points), segments);
+    let by_points = parts::seconds(numbers::tail(s, at), point::SIZE, points);
+    let at_segments = at + point::SIZE * points;
+    let by_segments = parts::seconds(numbers::tail(s, at_segments), segment::SIZE, segments);
     if !TotalSeconds::check(by_points) {
         return false;
     }

@@ -9,7 +9,25 @@ use fields::numbers;
 use heads::header;
 use records::Run;
 ghost use mathlib.Core.Path.{_≡_};
-ghost use Rattle.parts.specs.Values.{runAt, RunWithin};
+ghost use Prim.Native.Nat.{_*_, _≤_};
+ghost use lib.ListN.{length, drop};
+ghost use Rattle.fields.specs.Numbers.{u16At};
+ghost use Rattle.records.specs.Records.{sumTo};
+ghost use Rattle.parts.specs.Values.{pointSize, runAt, RunWithin};
+
+// The seconds of `n` records of one size from the front of `t` on: each of a run's points and segments begins with them.
+pub fn seconds(t: &[u8], size: usize, n: usize) -> u32
+    requires { ⌜ (2 ≤ size) × (size ≤ pointSize) × (n ≤ 255) × (size * n ≤ length (now t)) ⌝ }
+    ensures { λ r. ⌜ r ≡ sumTo (λ i. u16At (drop (size * i) (now (t .entry))) 0) n ⌝ }
+{
+    let mut total: u32 = 0;
+    let mut i = 0;
+    while i < n {
+        total += numbers::u16_at(t, size * i) as u32;
+        i += 1;
+    }
+    total
+}
 
 // The run that starts at a place of a file.
 pub fn run(s: &[u8], start: usize) -> Run

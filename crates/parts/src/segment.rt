@@ -12,7 +12,7 @@ ghost use lib.ListN.{length};
 ghost use Rattle.fields.specs.declared.trouble.Trouble.the-variants.{Clear};
 ghost use Rattle.fields.specs.Trouble.{checks};
 ghost use Rattle.readings.specs.Ranges.{greatestSegmentCount};
-ghost use Rattle.records.specs.Records.{noSegment, sumTo};
+ghost use Rattle.records.specs.Records.{noSegment};
 ghost use Rattle.arrays.specs.Arrays.{padded};
 ghost use Rattle.parts.specs.Values.{segmentSize, segment, segmentAt};
 ghost use Rattle.parts.specs.Rows.{segmentRows, segmentTrouble, segmentsTrouble};
@@ -61,20 +61,6 @@ pub fn troubles(s: &[u8], at: usize, n: usize) -> Trouble
         i += 1;
     }
     Trouble::Clear
-}
-
-// The seconds of the `n` segments from the front of `t` on.
-pub fn seconds(t: &[u8], n: usize) -> u32
-    requires { ⌜ (n ≤ 255) × (segmentSize * n ≤ length (now t)) ⌝ }
-    ensures { λ r. ⌜ r ≡ sumTo (λ i. segmentAt (now (t .entry)) (segmentSize * i) .seconds) n ⌝ }
-{
-    let mut total: u32 = 0;
-    let mut i = 0;
-    while i < n {
-        total += numbers::u16_at(t, SIZE * i) as u32;
-        i += 1;
-    }
-    total
 }
 
 // The `n` segments from the front of `t` on.

@@ -5,7 +5,7 @@ use mathlib.Core.List.{List}
 use borrow.Author.Tests.{not-true, not-false}
 use borrow.Author.Needs.{needs}
 use native.Mathlib.Omega.{arith}
-use lib.Dec.{eqb}
+use lib.Dec.{eqb, lit≤}
 use lib.ListN.{length}
 use Rattle.heads.specs.Values.{runHeaderSize}
 use Rattle.readings.proofs.EarlyAnswers.{fails, passes}
@@ -31,13 +31,13 @@ seconds-requires : tie.Need-seconds-requires
 seconds-requires c κs =
     let a = c .before .before .before .before .args in
     let room : pointSize * a .n .points ≤ length (c .tail .result .now) = enough (a .s .now) (a .start + runHeaderSize) (pointSize * a .n .points) (c .tail .ensures) (omega (arith, c .before .before .before .before .pre)) in
-    (search needs, room)
+    (lit≤ tt, lit≤ tt, search needs, room)
 
-mul-tail : tie.Need-mul-tail
-mul-tail c = search needs
+mul-at-segments : tie.Need-mul-at-segments
+mul-at-segments c = search needs
 
-add-tail : tie.Need-add-tail
-add-tail c = search needs
+add-at-segments : tie.Need-add-at-segments
+add-at-segments c = search needs
 
 tail-requires-2 : tie.Need-tail-requires-2
 tail-requires-2 c κs = search needs
@@ -47,7 +47,7 @@ seconds-requires-2 c κs =
     let start = c .before .before .before .before .before .before in
     let a = start .args in
     let room : segmentSize * a .n .segments ≤ length (c .tail2 .result .now) = enough (a .s .now) (a .start + runHeaderSize + pointSize * a .n .points) (segmentSize * a .n .segments) (c .tail2 .ensures) (start .pre) in
-    (search needs, room)
+    (lit≤ tt, lit≤ tt, search needs, room)
 
 check-requires : tie.Need-check-requires
 check-requires c κs = search needs
@@ -83,8 +83,8 @@ good-seconds-spec =
     add-at
     tail-requires
     seconds-requires
-    mul-tail
-    add-tail
+    mul-at-segments
+    add-at-segments
     tail-requires-2
     seconds-requires-2
     check-requires
