@@ -3,8 +3,8 @@
 //! - across the specs of all crates one name has one meaning, and none that the
 //!   kit's libraries give to something else;
 //! - every definition and law serves a contract, a proof of a function, or a
-//!   theorem that docs/PROMISES.md names;
-//! - every import is used.
+//!   theorem that a table of docs/PROMISES.md names;
+//! - every import is used, and no module is imported twice by one file.
 
 mod source;
 
@@ -13,13 +13,19 @@ use std::fs;
 use std::io;
 use std::path::{Path, PathBuf};
 
-use source::{contracts, Source};
+use source::Source;
 
-/// A file of a crate and what stands in it.
+/// A file of definitions and laws, or of code with its contracts.
 struct File {
     path: PathBuf,
     source: Source,
     is_spec: bool,
+}
+
+impl File {
+    fn is_code(&self) -> bool {
+        self.path.extension().map_or(false, |e| e == "rt")
+    }
 }
 
 fn files(folder: &Path, ending: &str, into: &mut Vec<PathBuf>) -> io::Result<()> {
@@ -47,9 +53,12 @@ fn shown<'a>(root: &Path, path: &'a Path) -> std::path::Display<'a> {
     path.strip_prefix(root).unwrap_or(path).display()
 }
 
-/// The names that a text sets in backquotes.
-fn quoted(text: &str) -> BTreeSet<String> {
-    text.split('`').skip(1).step_by(2).map(str::to_string).collect()
+/// The names that the tables of a text set in backquotes.
+fn tabled(text: &str) -> BTreeSet<String> {
+    let rows = text.lines().filter(|line| line.starts_with('|'));
+    rows.flat_map(|row| row.split('`').skip(1).step_by(2))
+        .map(str::to_string)
+        .collect()
 }
 
 /// A name as it stands where it is used: an operator without the underscores
@@ -70,16 +79,26 @@ fn doubled(root: &Path, read: &[File]) -> Vec<String> {
     for file in read.iter().filter(|file| file.is_spec) {
         for definition in &file.source.definitions {
             for name in std::iter::once(&definition.name).chain(&definition.cases) {
-                places.entry(name).or_default().push(shown(root, &file.path).to_string());
+                places
+                    .entry(name)
+                    .or_default()
+                    .push(shown(root, &file.path).to_string());
             }
         }
     }
     let mut found = Vec::new();
     for (name, at) in places {
         if at.len() > 1 {
-            found.push(format!("`{}` is defined more than once: {}.", name, at.join(", ")));
+            found.push(format!(
+                "`{}` is defined more than once: {}.",
+                name,
+                at.join(", ")
+            ));
         } else if kit.contains(name) {
-            found.push(format!("`{}`, {}, is a name of the kit's libraries.", name, at[0]));
+            found.push(format!(
+                "`{}`, {}, is a name of the kit's libraries.",
+                name, at[0]
+            ));
         }
     }
     found
@@ -112,7 +131,11 @@ fn idle(root: &Path, read: &[File], roots: &BTreeSet<String>) -> Vec<String> {
         // The proof of a function stands alone in its file, under its name.
         if file.path.file_name().map_or(false, |n| n == "Proof.antt") {
             let proofs = file.source.definitions.iter().enumerate();
-            next.extend(proofs.filter(|(_, d)| d.name.ends_with("-spec")).map(|(d, _)| (f, d)));
+            next.extend(
+                proofs
+                    .filter(|(_, d)| d.name.ends_with("-spec"))
+                    .map(|(d, _)| (f, d)),
+            );
         }
     }
     while let Some((f, d)) = next.pop() {
@@ -125,24 +148,49 @@ fn idle(root: &Path, read: &[File], roots: &BTreeSet<String>) -> Vec<String> {
         }
     }
     let mut found = Vec::new();
-    for (f, file) in read.iter().enumerate() {
+    for (f, file) in read.iter().enumerate().filter(|(_, file)| !file.is_code()) {
         for (d, definition) in file.source.definitions.iter().enumerate() {
             if !serves.contains(&(f, d)) {
-                found.push(format!("`{}`, {}, serves nothing.", definition.name, shown(root, &file.path)));
+                found.push(format!(
+                    "`{}`, {}, serves nothing.",
+                    definition.name,
+                    shown(root, &file.path)
+                ));
             }
         }
     }
     found
 }
 
-/// One sentence for each name that is imported and not used.
-fn unused(root: &Path, read: &[File]) -> Vec<String> {
+/// One sentence for each name that is imported and not used, and for each
+/// module that is imported again.
+fn imports(root: &Path, read: &[File]) -> Vec<String> {
     let mut found = Vec::new();
     for file in read {
-        let used: BTreeSet<&str> = file.source.definitions.iter().flat_map(|d| &d.cites).map(String::as_str).collect();
+        let mut modules = BTreeSet::new();
+        for import in &file.source.imports {
+            if !import.names.is_empty() && !modules.insert(&import.module) {
+                found.push(format!(
+                    "{} imports `{}` twice.",
+                    shown(root, &file.path),
+                    import.module
+                ));
+            }
+        }
+        let used: BTreeSet<&str> = file
+            .source
+            .definitions
+            .iter()
+            .flat_map(|d| &d.cites)
+            .map(String::as_str)
+            .collect();
         for name in file.source.taken() {
             if !used.contains(written(name)) {
-                found.push(format!("`{}` is imported by {} and not used.", name, shown(root, &file.path)));
+                found.push(format!(
+                    "`{}` is imported by {} and not used.",
+                    name,
+                    shown(root, &file.path)
+                ));
             }
         }
     }
@@ -156,14 +204,31 @@ pub fn complaints(root: &Path) -> io::Result<Vec<String>> {
     for path in all(&crates, "antt")? {
         let text = fs::read_to_string(&path)?;
         let is_spec = path.components().any(|part| part.as_os_str() == "specs");
-        read.push(File { source: Source::of(&text), path, is_spec });
+        read.push(File {
+            source: Source::of(&text),
+            path,
+            is_spec,
+        });
     }
-    let mut roots = quoted(&fs::read_to_string(root.join("docs/PROMISES.md"))?);
     for path in all(&crates, "rt")? {
-        roots.extend(contracts(&fs::read_to_string(&path)?));
+        let text = fs::read_to_string(&path)?;
+        read.push(File {
+            source: Source::of_code(&text),
+            path,
+            is_spec: false,
+        });
+    }
+    let mut roots = tabled(&fs::read_to_string(root.join("docs/PROMISES.md"))?);
+    for file in read.iter().filter(|file| file.is_code()) {
+        roots.extend(
+            file.source
+                .definitions
+                .iter()
+                .flat_map(|d| d.cites.iter().cloned()),
+        );
     }
     let mut found = doubled(root, &read);
     found.extend(idle(root, &read, &roots));
-    found.extend(unused(root, &read));
+    found.extend(imports(root, &read));
     Ok(found)
 }

@@ -6,7 +6,9 @@ use std::path::PathBuf;
 use std::process::ExitCode;
 
 fn main() -> ExitCode {
-    let project = std::env::args_os().nth(1).map_or_else(|| PathBuf::from("."), PathBuf::from);
+    let project = std::env::args_os()
+        .nth(1)
+        .map_or_else(|| PathBuf::from("."), PathBuf::from);
     match definitions::complaints(&project) {
         Ok(found) if found.is_empty() => ExitCode::SUCCESS,
         Ok(found) => {
@@ -16,7 +18,11 @@ fn main() -> ExitCode {
             ExitCode::FAILURE
         }
         Err(error) => {
-            eprintln!("The definitions of {} can not be read: {}.", project.display(), error);
+            eprintln!(
+                "The definitions of {} can not be read: {}.",
+                project.display(),
+                error
+            );
             ExitCode::FAILURE
         }
     }

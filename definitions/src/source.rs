@@ -60,7 +60,11 @@ fn import(line: &str) -> Option<Import> {
     let taken = |name: &str| name.split(" as ").last().unwrap_or(name).trim().to_string();
     Some(Import {
         module: module.to_string(),
-        names: list.split(',').map(taken).filter(|n| n.chars().any(char::is_alphanumeric)).collect(),
+        names: list
+            .split(',')
+            .map(taken)
+            .filter(|n| n.chars().any(char::is_alphanumeric))
+            .collect(),
     })
 }
 
@@ -114,13 +118,20 @@ impl Source {
                 (None, Some((name, kind))) if indent == within => {
                     let over = modules.iter().flat_map(|(_, over)| over.iter().cloned());
                     let cites = names(line).into_iter().chain(over).collect();
-                    source.definitions.push(Definition { name, cases: Vec::new(), cites });
+                    source.definitions.push(Definition {
+                        name,
+                        cases: Vec::new(),
+                        cites,
+                    });
                     if !kind.is_empty() {
                         typed = Some((indent, kind));
                     }
                 }
                 (Some((at, "data")), Some((case, _))) if indent == at + 2 => {
-                    let last = source.definitions.last_mut().expect("a data type is a definition");
+                    let last = source
+                        .definitions
+                        .last_mut()
+                        .expect("a data type is a definition");
                     last.cases.push(case);
                     last.cites.extend(names(line));
                 }
@@ -134,21 +145,29 @@ impl Source {
         source
     }
 
+    /// The text of a file of code: its contracts, as one definition without a
+    /// name, and what is imported for them.
+    pub fn of_code(text: &str) -> Source {
+        let ghosts = text.lines().filter(|line| line.starts_with("ghost use "));
+        let parts = text
+            .split('⌜')
+            .skip(1)
+            .filter_map(|part| part.split_once('⌝'));
+        let cites = parts.flat_map(|(contract, _)| names(contract)).collect();
+        Source {
+            imports: ghosts.filter_map(import).collect(),
+            definitions: vec![Definition {
+                name: String::new(),
+                cases: Vec::new(),
+                cites,
+            }],
+        }
+    }
+
     /// The names that the imports take.
     pub fn taken(&self) -> impl Iterator<Item = &String> {
         self.imports.iter().flat_map(|import| &import.names)
     }
-}
-
-/// The names that the contracts of a source file in Rattle mention.
-pub fn contracts(text: &str) -> BTreeSet<String> {
-    let mut found = BTreeSet::new();
-    for part in text.split('⌜').skip(1) {
-        if let Some(end) = part.find('⌝') {
-            found.extend(names(&part[..end]));
-        }
-    }
-    found
 }
 
 #[cfg(test)]
@@ -201,8 +220,13 @@ mod tests {
 
     #[test]
     fn reads_contracts() {
-        let found = contracts("fn f()\n    ensures { λ r. ⌜ r ≡ answer s ⌝ }\n{ other() }\n");
-        assert!(found.contains("answer"));
-        assert!(!found.contains("other"));
+        let source = Source::of_code(
+            "use a::b;\n\
+             ghost use Rattle.a.specs.B.{answer};\n\
+             fn f()\n    ensures { λ r. ⌜ r ≡ answer s ⌝ }\n{ other() }\n",
+        );
+        assert_eq!(source.taken().collect::<Vec<_>>(), ["answer"]);
+        assert!(cited(&source, "").contains(&"answer".to_string()));
+        assert!(!cited(&source, "").contains(&"other".to_string()));
     }
 }
