@@ -11,7 +11,7 @@ use borrow.Author.Tests.{ne-eqb, le-leb, lt-leb}
 use lib.Dec.{eqb, leb, lit<}
 use lib.ListN.{length, getD, drop}
 use lib.Seq.{drop-cons}
-use Rattle.readings.specs.Grids.{oneOf, gridPoints, nextOf, nextGrid}
+use Rattle.readings.specs.Grids.{gridNumbers, oneOf, gridPoints, nextOf, nextGrid}
 
 -- the numbers before place i are all below n: the next is that of the others, or the last of these
 pub record Passed (gs : List ℕ) (n i : ℕ) : Type 0 where
@@ -34,6 +34,10 @@ passed-more gs n i h p l = record { next = p .next ∙ rw (drop-cons gs i 0 h, l
 abbrev Rising : ℕ → List ℕ → Type 0
 Rising g [] = Unit {0}
 Rising g (h ∷ hs) = (g < h) × Rising h hs
+
+abbrev Rises : List ℕ → Type 0
+Rises [] = Unit {0}
+Rises (g ∷ gs) = Rising g gs
 
 -- a number below the first of them is none of them
 below-all : (n g : ℕ) (gs : List ℕ) → n < g → Rising g gs → oneOf (g ∷ gs) n ≡ false
@@ -60,7 +64,7 @@ next-is-itself last n g (h ∷ hs) (step, up) = go (decLe n g) (next-is-itself g
         let past : g < n = omega arith in
         rw (lt-leb n g past, ne-eqb n g (omega arith)) later
 
-numbers-rise : Rising 9 (12 ∷ 16 ∷ 20 ∷ 25 ∷ 30 ∷ 36 ∷ 42 ∷ 49 ∷ [])
+numbers-rise : Rises gridNumbers
 numbers-rise = (lit< tt, (lit< tt, (lit< tt, (lit< tt, (lit< tt, (lit< tt, (lit< tt, (lit< tt, tt))))))))
 
 -- A number of points is a grid's exactly when it is the next grid's
