@@ -61,6 +61,10 @@ impl Workshop {
         let stand_ins = StandIns::new();
         stand_ins.put("rt", RT);
         stand_ins.put("cargo", CARGO);
+        // Only looked for. The machine's own may lie where nobody may look.
+        for tool in ["rustc", "cc"] {
+            stand_ins.put_quiet(tool, "");
+        }
         stand_ins.put_quiet("uname", &format!("echo {processor}"));
         stand_ins.put_quiet("ready/judge", FOR_THE_PROGRAM);
         stand_ins.put_quiet("ready/leverbonnet", PROGRAM);

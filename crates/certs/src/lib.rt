@@ -106,7 +106,7 @@ pub fn choose(s: &[u8], count: usize, kind: u8, identity: Identity, day: u16, af
     Lookup::Found(certificate::nth(s, best - 1))
 }
 
-// The certificates of a run among the first `count` of its file, each found through `choose`.
+// The certificates of a run among the first `count` of a file, each found through `choose`.
 pub fn choose_all(s: &[u8], count: usize, header: RunHeader) -> Chosen
     requires { ⌜ certificatePlace count ≤ length (now s) ⌝ }
     ensures { λ r. ⌜ r ≡ chosenFor (certificateOf (now (s .entry))) count header ⌝ }
