@@ -14,6 +14,7 @@ use Rattle.job.specs.Troubles.{jobTrouble}
 abbrev pub refusedJob : Trouble → Job
 refusedJob t = record { trouble = t; certificates = 0; runs = 0; starts = replicate greatestRunCount 0 }
 
+-- the job that a file holds where it is in no trouble
 abbrev pub jobOf : Trouble → List ℕ → Job
 jobOf Clear s =
     record {
@@ -24,5 +25,6 @@ jobOf Clear s =
     }
 jobOf (At number place) s = refusedJob (At number place)
 
+-- The job in a file
 unfoldable pub readJob : List ℕ → Job
 readJob s = jobOf (jobTrouble s) s

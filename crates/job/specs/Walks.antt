@@ -15,6 +15,7 @@ use Rattle.job.specs.Troubles.{runsTrouble, endTrouble}
 abbrev pub stopped : Trouble → Walk
 stopped t = record { trouble = t; starts = replicate greatestRunCount 0 }
 
+-- and one that met none notes each run's place
 abbrev pub walkOf : Trouble → List ℕ → ℕ → Walk
 walkOf Clear s n = record { trouble = Clear; starts = padded greatestRunCount 0 (runStart s) n }
 walkOf (At number place) s n = stopped (At number place)
