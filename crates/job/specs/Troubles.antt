@@ -63,7 +63,7 @@ certificatesTrouble s = upTo (entryTrouble s) (certificateCountOf s)
 abbrev pub goodSeconds : List ℕ → ℕ → Counts → Bool
 goodSeconds s start n = totalSeconds (pointTotal s start n) && eqb (segmentTotal s start n) (pointTotal s start n)
 
--- what follows a run's 64 bytes: points, segments, weighings, and then the seconds
+-- what follows a run's header: points, segments, weighings, and then the seconds
 unfoldable pub partsTrouble : List ℕ → ℕ → Counts → Trouble
 partsTrouble s start n =
     first (pointsTrouble s (start + runHeaderSize) (n .points))

@@ -1,4 +1,4 @@
-// The fields of a run's own 64 bytes.
+// The fields of a run's header.
 
 use crate::range;
 ghost use mathlib.Core.Path.{_≡_};
