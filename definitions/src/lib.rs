@@ -53,12 +53,32 @@ fn shown<'a>(root: &Path, path: &'a Path) -> std::path::Display<'a> {
     path.strip_prefix(root).unwrap_or(path).display()
 }
 
-/// The names that the tables of a text set in backquotes.
-fn tabled(text: &str) -> BTreeSet<String> {
-    let rows = text.lines().filter(|line| line.starts_with('|'));
-    rows.flat_map(|row| row.split('`').skip(1).step_by(2))
-        .map(str::to_string)
-        .collect()
+fn cells(row: &str) -> Vec<&str> {
+    row.trim_matches('|').split('|').map(str::trim).collect()
+}
+
+/// The theorems that the tables of a text name: what stands in backquotes in
+/// a column with the heading "Theorem".
+fn theorems(text: &str) -> BTreeSet<String> {
+    let mut found = BTreeSet::new();
+    // Where that column is in the present table, once its heading was read.
+    let mut column: Option<Option<usize>> = None;
+    for line in text.lines() {
+        if !line.starts_with('|') {
+            column = None;
+            continue;
+        }
+        let row = cells(line);
+        match column {
+            None => column = Some(row.iter().position(|cell| *cell == "Theorem")),
+            Some(None) => {}
+            Some(Some(at)) => {
+                let cell = row.get(at).copied().unwrap_or_default();
+                found.extend(cell.split('`').skip(1).step_by(2).map(str::to_string));
+            }
+        }
+    }
+    found
 }
 
 /// A name as it stands where it is used: an operator without the underscores
@@ -218,14 +238,12 @@ pub fn complaints(root: &Path) -> io::Result<Vec<String>> {
             is_spec: false,
         });
     }
-    let mut roots = tabled(&fs::read_to_string(root.join("docs/PROMISES.md"))?);
+    let mut roots = theorems(&fs::read_to_string(root.join("docs/PROMISES.md"))?);
+    // What a contract mentions and its file does not import is a parameter.
     for file in read.iter().filter(|file| file.is_code()) {
-        roots.extend(
-            file.source
-                .definitions
-                .iter()
-                .flat_map(|d| d.cites.iter().cloned()),
-        );
+        let cited = file.source.definitions.iter().flat_map(|d| &d.cites);
+        let taken: BTreeSet<&String> = file.source.taken().collect();
+        roots.extend(cited.filter(|name| taken.contains(name)).cloned());
     }
     let mut found = doubled(root, &read);
     found.extend(idle(root, &read, &roots));

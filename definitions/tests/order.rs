@@ -2,6 +2,7 @@
 
 use std::fs;
 use std::path::{Path, PathBuf};
+use std::process::Command;
 
 /// A project of one crate that is in order: a definition that a contract
 /// names, a law that a proof cites, a theorem that the promises name.
@@ -103,6 +104,63 @@ fn a_theorem_that_no_table_names() {
 }
 
 #[test]
+fn a_table_of_other_things_names_no_theorem() {
+    let project = Project::new("other");
+    project.write(
+        "docs/PROMISES.md",
+        "| Function | Says |\n|---|---|\n| `theorem` | so |\n",
+    );
+    assert_eq!(
+        project.complaints(),
+        ["`theorem`, crates/one/proofs/Laws.antt, serves nothing."]
+    );
+}
+
+#[test]
+fn a_definition_that_only_shares_a_name_with_a_parameter() {
+    let project = Project::new("parameter");
+    let more = format!("{}\n-- idle\npub r : ℕ\nr = 2\n", SPEC);
+    project.write("crates/one/specs/A.antt", &more);
+    assert_eq!(
+        project.complaints(),
+        ["`r`, crates/one/specs/A.antt, serves nothing."]
+    );
+}
+
+#[test]
+fn the_program_says_it_and_fails() {
+    let run = |project: &Path| {
+        Command::new(env!("CARGO_BIN_EXE_definitions"))
+            .arg(project)
+            .output()
+            .expect("it runs")
+    };
+    let project = Project::new("program");
+    let quiet = run(&project.0);
+    assert!(
+        quiet.status.success() && quiet.stdout.is_empty(),
+        "{:?}",
+        quiet
+    );
+    project.write("docs/PROMISES.md", "");
+    let told = run(&project.0);
+    assert_eq!(told.status.code(), Some(1), "{:?}", told);
+    assert_eq!(
+        told.stdout,
+        "`theorem`, crates/one/proofs/Laws.antt, serves nothing.\n".as_bytes()
+    );
+    let nowhere = run(Path::new("/nowhere"));
+    assert_eq!(nowhere.status.code(), Some(1), "{:?}", nowhere);
+    assert!(
+        nowhere
+            .stderr
+            .starts_with(b"The definitions of /nowhere can not be read: "),
+        "{:?}",
+        nowhere
+    );
+}
+
+#[test]
 fn a_name_with_two_meanings() {
     let project = Project::new("doubled");
     project.write("crates/two/specs/B.antt", "pub small : ℕ\nsmall = 2\n");
@@ -116,7 +174,10 @@ fn a_name_with_two_meanings() {
 fn a_name_of_the_kit() {
     let project = Project::new("kit");
     project.write("crates/two/specs/B.antt", "pub leb : ℕ\nleb = 2\n");
-    project.write("docs/PROMISES.md", "| `theorem` | `leb` |\n");
+    project.write(
+        "docs/PROMISES.md",
+        &PROMISES.replace("`theorem`", "`theorem`, `leb`"),
+    );
     assert_eq!(
         project.complaints(),
         ["`leb`, crates/two/specs/B.antt, is a name of the kit's libraries."]
