@@ -39,7 +39,7 @@ fn so_dated(day: u16, dated: u16, after: bool) -> bool
     dated <= day
 }
 
-// Whether of two days on the asked side the second is nearer the header.
+// Whether of two days on the asked side the second is nearer the run.
 fn nearer_day(first: u16, second: u16, after: bool) -> bool
     ensures { λ r. ⌜ r ≡ nearer after first second ⌝ }
 {

@@ -58,7 +58,7 @@ unfoldable pub layoutOut : LayoutOutcome → List ℕ → List ℕ
 layoutOut (notLaid number place) old = old
 layoutOut (laid ds) old = spliced old 0 (distanceBytes ds)
 
--- A call with this layoutOutcome answered r, and the output, which was old, is new
+-- A call with this outcome answered r, and the output, which was old, is new
 pub record Answered (o : LayoutOutcome) (old new : List ℕ) (r : Answer) : Type 0 where
   pub answer : r ≡ layoutAnswer o
   pub out : new ≡ layoutOut o old

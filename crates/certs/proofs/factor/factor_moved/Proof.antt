@@ -1,4 +1,4 @@
--- `factor_moved` is `factorMoved`; the two factors fit 16 bits, so twenty times their apart fits.
+-- `factor_moved` is `factorMoved`; the two factors fit 16 bits, so twenty times how far they are apart fits.
 use native.Mathlib.Omega.{arith}
 use borrow.Author.Needs.{needs}
 use Rattle.certs.specs.Comparing.{apart}
