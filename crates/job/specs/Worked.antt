@@ -4,6 +4,7 @@ use mathlib.Core.List.{List, [], _∷_, _++_}
 use lib.ListN.{replicate}
 use Rattle.fields.specs.declared.trouble.Trouble.{Trouble}
 use Rattle.fields.specs.declared.trouble.Trouble.the-variants.{Clear, At}
+use Rattle.heads.specs.Values.{runHeaderSize}
 use Rattle.job.specs.declared.Job.{Job}
 
 -- Bytes
@@ -89,7 +90,7 @@ refusals =
     ∷ refusal (headerBytes 2 0 1) 3 3
     ∷ refusal (headerBytes 1 65 1) 4 5
     ∷ refusal (headerBytes 1 0 0) 4 7
-    ∷ refusal (headerBytes 1 0 1 ++ replicate 64 0) 5 9
+    ∷ refusal (headerBytes 1 0 1 ++ replicate runHeaderSize 0) 5 9
     ∷ refusal (headerBytes 1 2 1 ++ times 2 (certificateBytes 2 1 8990 840 0 0)) 6 25
     ∷ refusal (lasting 3599) 7 73
     ∷ refusal (workedJob ++ (0 ∷ [])) 8 265
