@@ -11,7 +11,7 @@ use borrow.Author.Tests.{leb-true}
 use lib.Dec.{leb}
 use Rattle.fields.specs.declared.trouble.Trouble.{Trouble}
 use Rattle.fields.specs.declared.trouble.Trouble.the-variants.{Clear, At}
-use Rattle.fields.specs.Trouble.{first, troubleUnless, unless, Row, checks, troublePlace, from, upTo}
+use Rattle.fields.specs.Trouble.{first, troubleUnless, unless, Row, AllGood, checks, troublePlace, from, upTo}
 
 -- Clear is no trouble at any place
 pub clear-not-at : {X : Type 0} {t : Trouble} {n p : ℕ} → t ≡ Clear → t ≡ At n p → X
@@ -71,11 +71,6 @@ step n p e f g = rw (← f, ← g) e
 -- and a call of the code is several
 pub steps : (rs : List Row) {r t u : Trouble} → r ≡ checks t rs → t ≡ u → r ≡ checks u rs
 steps rs e f = e ∙ ap (λ (t : Trouble). checks t rs) f
-
--- every row is good
-abbrev pub AllGood : List Row → Type 0
-AllGood [] = Unit
-AllGood (r ∷ rs) = (r .ok ≡ true) × AllGood rs
 
 -- the trouble met before the rows comes first
 pub checks-first : (t : Trouble) (rs : List Row) → checks t rs ≡ first t (checks Clear rs)

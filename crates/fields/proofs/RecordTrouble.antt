@@ -10,8 +10,8 @@ use lib.Dec.{leb}
 use lib.ListN.{length, drop, length-drop}
 use Rattle.fields.specs.declared.trouble.Trouble.{Trouble}
 use Rattle.fields.specs.declared.trouble.Trouble.the-variants.{Clear, At}
-use Rattle.fields.specs.Trouble.{first, incomplete, Row, checks, from, troublePlace, recordTrouble, upTo}
-use Rattle.fields.proofs.FirstTrouble.{AllGood, told, each, clear-left, clear-right, unless-clear, from-clear, checks-clear, checks-reach, first-told, unless-told, checks-told, from-told, each-clear}
+use Rattle.fields.specs.Trouble.{first, incomplete, Row, AllGood, checks, from, troublePlace, recordTrouble, upTo}
+use Rattle.fields.proofs.FirstTrouble.{told, each, clear-left, clear-right, unless-clear, from-clear, checks-clear, checks-reach, first-told, unless-told, checks-told, from-told, each-clear}
 
 -- t is what is left of s from `at` on
 module _ (s : List ℕ) (at size : ℕ) (rows : List Row) {t : List ℕ} (rest : t ≡ drop at s) where

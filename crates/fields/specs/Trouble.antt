@@ -1,6 +1,7 @@
 -- The first trouble met: that of a record, row by row, and that of records in a row.
 use Prim.Native.Nat.{ℕ, zero, suc, _+_}
-use mathlib.Core.Bool.{Bool, cond}
+use mathlib.Core.Path.{_≡_}
+use mathlib.Core.Bool.{Bool, true, cond}
 use mathlib.Core.List.{List, [], _∷_}
 use lib.Dec.{leb}
 use lib.ListN.{length, drop}
@@ -67,6 +68,11 @@ count place ok = record { number = countRange; place = place; ok = ok }
 
 abbrev pub field : ℕ → Bool → Row
 field place ok = record { number = fieldRange; place = place; ok = ok }
+
+-- every field is good
+abbrev pub AllGood : List Row → Type 0
+AllGood [] = Unit {0}
+AllGood (r ∷ rs) = (r .ok ≡ true) × AllGood rs
 
 -- the rows from the first to the last: the trouble met so far, or else that of the first row that is not good
 unfoldable pub checks : Trouble → List Row → Trouble

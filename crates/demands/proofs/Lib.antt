@@ -1,0 +1,4 @@
+-- The theorems.
+pub mod Troubles
+pub mod GoodParts
+pub mod ByTable

@@ -1,0 +1,3 @@
+-- What the calls have to be trusted for.
+pub mod ReadingOrder
+pub mod Table
