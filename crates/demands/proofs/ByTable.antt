@@ -14,7 +14,7 @@ use Rattle.fields.specs.declared.trouble.Trouble.the-variants.{Clear, At}
 use Rattle.fields.specs.Trouble.{first, troubleUnless, repeated, wrongSeconds, leftOver, Row}
 use Rattle.fields.proofs.FirstTrouble.{first-clear, first-at, unless-clear, told, each, checks-told, stops, each-clear}
 use Rattle.heads.specs.Values.{fileHeaderSize, runHeaderSize, certificatePlace, certificateOf}
-use Rattle.parts.specs.Values.{pointPlace, segmentPlace}
+use Rattle.parts.specs.Values.{pointPlace, segmentPlace, runAt}
 use Rattle.parts.specs.Rows.{pointsTrouble, segmentsTrouble, weighingsTrouble}
 use Rattle.records.specs.declared.Counts.{Counts}
 use Rattle.heads.specs.Rows.{certificateTrouble}
@@ -44,7 +44,7 @@ module _ (s : List ℕ) {n p : ℕ} where
       ∙ first-at _ (sym (stops (λ i. runTrouble s (runStart s i) (numberBefore s i)) k (runCountOf s) (runs-clear s k (r .earlier)) refl told (r .inside)) ∙ told)
 
   at-parts : (k : ℕ) → ReachedParts s k → partsTrouble s (runStart s k) (countsOf s k) ≡ At n p → jobTrouble s ≡ At n p
-  unfolding runTrouble
+  unfolding runTrouble runAt
   at-parts k r told =
       at-run k (r .run)
       (first-clear _ (good-clear s (runHeader k) (r .header))
@@ -75,7 +75,7 @@ and-false true = refl
 and-false false = refl
 
 not-above : (s : List ℕ) (k : ℕ) → numberOf s (suc k) ≤ numberOf s k → ltb (numberBefore s (suc k)) (numberOf s (suc k)) ≡ false
-unfolding numberBefore
+unfolding numberBefore runAt
 not-above s k low = le-ltb (numberOf s k) (numberOf s (suc k)) low
 
 -- the seconds are judged wrong where they are too many or not the same
@@ -85,7 +85,7 @@ wrong-seconds s k (inl many) = rw (lt-leb (pointSeconds s k) greatestTotalSecond
 wrong-seconds s k (inr other) = rw (ne-eqb (segmentSeconds s k) (pointSeconds s k) other, and-false)
 
 pub row-told : (s : List ℕ) {n p : ℕ} → FileRefused s n p → jobTrouble s ≡ At n p
-unfolding jobTrouble runTrouble partsTrouble
+unfolding jobTrouble runTrouble partsTrouble runAt
 row-told s (row1 r reached less) = at-fixed s r reached (record-short s (startOf s r) (sizeOf r) (rowsOf s r) (size-some r) less)
 row-told s (row2 complete not-marked) = at-fixed s fileHeader tt (record-bad s 0 fileHeaderSize (fileRows s) complete (here not-marked refl refl))
 row-told s (row3 complete is-marked other) =
@@ -123,7 +123,7 @@ seconds-wrong s k e = go (leb (pointSeconds s k) greatestTotalSeconds) refl
 
 -- a number that is not above the one before: the run is not the first
 not-new : (s : List ℕ) (k : ℕ) → ReachedRun s k → Good s (runHeader k) → ltb (numberBefore s k) (numberOf s k) ≡ false → NotNew s (runStart s k)
-unfolding numberBefore
+unfolding numberBefore runAt
 not-new s zero r good e = absurd (true≢false (sym (lt-ltb _ _ (before-above s zero good tt)) ∙ e))
 not-new s (suc k) r good e = numberNotAbove k r good (ltb-false _ _ e)
 
@@ -264,7 +264,7 @@ module _ (s : List ℕ) {n p : ℕ} where
 
   -- a run that is reached
   of-run : (k : ℕ) → ReachedRun s k → runTrouble s (runStart s k) (numberBefore s k) ≡ At n p → FileRefused s n p
-  unfolding runTrouble
+  unfolding runTrouble runAt
   of-run k r e = own (met _ _ e)
     where
       number : Trouble

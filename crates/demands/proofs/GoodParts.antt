@@ -21,7 +21,7 @@ use Rattle.records.specs.Records.{sameIdentity}
 use Rattle.records.proofs.Identities.{same-equal, same-refl}
 use Rattle.certs.specs.Choosing.{Of}
 use Rattle.heads.specs.Values.{runHeaderSize, certificatePlace}
-use Rattle.parts.specs.Values.{pointPlace, segmentPlace}
+use Rattle.parts.specs.Values.{pointPlace, segmentPlace, runAt}
 use Rattle.parts.specs.Rows.{pointsTrouble, segmentsTrouble, weighingsTrouble}
 use Rattle.job.specs.Places.{certificateCountOf, runCountOf, runStart}
 use Rattle.job.specs.Troubles.{sameCertificate, anyTo, repeats, entryTrouble, goodSeconds, partsTrouble, runTrouble, runsTrouble, numberBefore, jobTrouble}
@@ -99,16 +99,17 @@ good-certificate s k g =
 -- Runs
 
 pub above-before : (s : List ℕ) (k : ℕ) → numberBefore s k < numberOf s k → Above s k
-unfolding numberBefore
+unfolding numberBefore runAt
 above-before s zero h = tt
 above-before s (suc k) h = h
 
 pub before-above : (s : List ℕ) (k : ℕ) → Good s (runHeader k) → Above s k → numberBefore s k < numberOf s k
-unfolding numberBefore
+unfolding numberBefore runAt
 before-above s zero g h = within-least leastRunNumber greatestRunNumber _ (g .fields .0)
 before-above s (suc k) g h = h
 
 pub clear-run : (s : List ℕ) (k : ℕ) → runTrouble s (runStart s k) (numberBefore s k) ≡ Clear → GoodRun s k
+unfolding runAt
 clear-run s k e =
     let r = run-clear s (runStart s k) (numberBefore s k) e in
     record {
@@ -139,7 +140,7 @@ unfolding within
 good-seconds s k g = rw (le-leb 0 (pointSeconds s k) (omega arith), le-leb (pointSeconds s k) greatestTotalSeconds (g .total), eq-eqb (segmentSeconds s k) (pointSeconds s k) (g .balanced))
 
 pub good-run : (s : List ℕ) (k : ℕ) → GoodRun s k → runTrouble s (runStart s k) (numberBefore s k) ≡ Clear
-unfolding runTrouble partsTrouble
+unfolding runTrouble partsTrouble runAt
 good-run s k g =
     first-clear _ (good-clear s (runHeader k) (g .header))
     ∙ first-clear _ (number-clear s k (g .header) (g .above))

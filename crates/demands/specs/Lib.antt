@@ -1,3 +1,7 @@
 -- What the calls have to be trusted for.
 pub mod ReadingOrder
 pub mod Table
+pub mod Equations
+pub mod Demands
+pub mod Front
+pub mod Starred

@@ -13,7 +13,7 @@ use Rattle.heads.specs.Values.{fileHeaderSize, certificateSize, runHeaderSize, 
 use Rattle.heads.specs.Rows.{certificateRows, headerRows}
 use Rattle.parts.specs.Values.{pointSize, segmentSize, weighingSize, pointPlace, segmentPlace, weighingPlace, pointAt, segmentAt, weighingAt, pointTotal, segmentTotal}
 use Rattle.parts.specs.Rows.{pointRows, segmentRows, weighingRows}
-use Rattle.job.specs.Places.{certificateCountOf, runCountOf, runStart}
+use Rattle.job.specs.Places.{certificateCountOf, runCountOf, runStart, runOf}
 use Rattle.job.specs.Troubles.{fileRows}
 
 -- The file's header, and the parts of fixed size behind it: certificate k, the header of run k, and its point, segment or weighing i
@@ -25,10 +25,11 @@ pub data Fixed : Type 0 where
   oneSegment : ℕ → ℕ → Fixed
   oneWeighing : ℕ → ℕ → Fixed
 
--- what the header of run k says: its number, and how many points, segments and weighings follow
+-- the number of run k
 abbrev pub numberOf : List ℕ → ℕ → ℕ
-numberOf s k = headerAt s (runStart s k) .number
+numberOf s k = runOf s k .header .number
 
+-- how many points, segments and weighings its header announces
 abbrev pub countsOf : List ℕ → ℕ → Counts
 countsOf s k = headerAt s (runStart s k) .counts
 

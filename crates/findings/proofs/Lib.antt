@@ -7,7 +7,3 @@ pub mod Absent
 pub mod Most
 pub mod Accepting
 pub mod Members
-pub mod Sorted
-pub mod Independence
-pub mod Reached
-pub mod Words

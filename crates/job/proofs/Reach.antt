@@ -19,7 +19,7 @@ use Rattle.records.specs.declared.Counts.{Counts}
 use Rattle.heads.proofs.InRange.{header-ok}
 use Rattle.heads.specs.Values.{headerAt, certificatePlace, fileHeaderSize, certificateSize, runHeaderSize}
 use Rattle.heads.specs.Rows.{headerTrouble}
-use Rattle.job.specs.Places.{runCountOf, runStart}
+use Rattle.job.specs.Places.{runCountOf, runStart, longestRun, longestJob}
 use Rattle.job.specs.Troubles.{fileTrouble, repeats, goodSeconds, entryTrouble, partsTrouble, numberBefore, runTrouble, runsTrouble, jobTrouble}
 use Rattle.job.proofs.ClearRuns.{run-clear}
 use Rattle.job.proofs.WholeFile.{certificate-count, run-count}
@@ -71,11 +71,7 @@ row-reach s at size rows n {m} low room =
 
 -- Runs
 
--- the longest: a header, 64 points, 16 segments and 8 weighings
-abbrev pub longestRun : ℕ
-longestRun = 1008
-
--- no more of each than that
+-- no more points, segments and weighings than there may be
 pub record Few (n : Counts) : Type 0 where
   pub points : n .points ≤ greatestPointCount
   pub segments : n .segments ≤ greatestSegmentCount
@@ -118,10 +114,6 @@ start-reach s e (suc k) clear =
 
 -- The whole file
 
--- the longest: the header, 64 certificates and 16 such runs
-abbrev pub longestJob : ℕ
-longestJob = 17161
-
 entry-reach : (s : List ℕ) (k : ℕ) {m : ℕ} → certificatePlace k + certificateSize ≤ m → troublePlace (entryTrouble s k) ≤ m
 entry-reach s k room =
     first-reach _ _ (record-reach s (certificatePlace k) certificateSize _ refl room)
@@ -139,5 +131,5 @@ job-reach s =
     first-reach _ _ (up-reach _ _ (λ k h clear. run-reach s (runStart s k) (numberBefore s k) (omega (arith, start-reach s file k clear))))
     (λ walked. unless-reach (leb (length s) (runStart s (runCountOf s))) leftOver _ (omega (arith, start-reach s file _ walked)))))
 
-pub places : (s : List ℕ) {n p : ℕ} → jobTrouble s ≡ At n p → p ≤ 17161
+pub places : (s : List ℕ) {n p : ℕ} → jobTrouble s ≡ At n p → p ≤ longestJob
 places s e = subst (λ (t : Trouble). troublePlace t ≤ longestJob) e (job-reach s)

@@ -24,3 +24,11 @@ runStart s (suc k) = nextStart s (runStart s k)
 
 abbrev pub runOf : List ℕ → ℕ → Run
 runOf s k = runAt s (runStart s k)
+
+-- the longest run: a header, 64 points, 16 segments and 8 weighings
+abbrev pub longestRun : ℕ
+longestRun = 1008
+
+-- the longest job: the header, 64 certificates and 16 such runs
+abbrev pub longestJob : ℕ
+longestJob = 17161

@@ -1,4 +1,2 @@
 -- What the public calls answer, and what they write.
 pub mod Calls
-pub mod Demands
-pub mod Starred

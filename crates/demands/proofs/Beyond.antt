@@ -24,12 +24,12 @@ use Rattle.parts.specs.Values.{pointPlace, segmentPlace, pointTotal, segmentTot
 use Rattle.heads.specs.Rows.{certificateRows}
 use Rattle.parts.specs.Rows.{pointRows, segmentRows}
 use Rattle.fields.proofs.RecordTrouble.{whole-at}
-use Rattle.job.specs.Places.{certificateCountOf, runCountOf, nextStart, runStart}
+use Rattle.job.specs.Places.{certificateCountOf, runCountOf, nextStart, runStart, longestRun, longestJob}
 use Rattle.job.specs.Troubles.{fileTrouble, sameCertificate, entryTrouble, certificatesTrouble, goodSeconds, partsTrouble, numberBefore, runTrouble, runsTrouble, endTrouble, jobTrouble}
-use Rattle.job.proofs.Fronts.{Front, front-of, front-same, certificate-count-front, run-count-front, file-rows-front, certificate-front, header-front, header-rows-front, point-front, segment-front, weighing-rows-front}
+use Rattle.demands.proofs.Fronts.{Front, front-of, front-same, certificate-count-front, run-count-front, file-rows-front, certificate-front, header-front, header-rows-front, point-front, segment-front, weighing-rows-front}
 use Rattle.job.proofs.LookBack.{any-ext}
-use Rattle.job.proofs.Reach.{longestRun, longestJob, Few, few-parts, start-reach}
+use Rattle.job.proofs.Reach.{Few, few-parts, start-reach}
 use Rattle.job.proofs.WholeFile.{certificate-count, run-count}
 
 -- The same troubles
 
@@ -191,8 +191,8 @@ module _ (p a b : List ℕ) (whole : length p ≡ longestJob) (more : 1 ≤ leng
       first-same _ _ _ file-same
       (λ file. first-same _ _ _ (certificates-same file) (λ certificates. first-same _ _ _ (runs-same file) (end-same file)))
 
--- The answer hangs on the first 17,162 bytes alone: where the file goes on ..
-longer : (s : List ℕ) (m : ℕ) → 17162 ≤ m → m < length s → jobTrouble (take m s) ≡ jobTrouble s
+-- The first trouble hangs on the bytes of the longest job and one more: where the file goes on ..
+longer : (s : List ℕ) (m : ℕ) → longestJob < m → m < length s → jobTrouble (take m s) ≡ jobTrouble s
 longer s m h long =
     let p = take longestJob s in
     let whole : length p ≡ longestJob = length-take-le longestJob s (omega arith) in
@@ -203,7 +203,7 @@ longer s m h long =
     ∙ ap jobTrouble (take-append-drop longestJob s)
 
 -- .. and where it does not
-pub prefix : (s : List ℕ) (m : ℕ) → 17162 ≤ m → jobTrouble (take m s) ≡ jobTrouble s
+pub prefix : (s : List ℕ) (m : ℕ) → longestJob < m → jobTrouble (take m s) ≡ jobTrouble s
 prefix s m h = by-length (leb (length s) m) refl
   where
     by-length : (fits : Bool) → leb (length s) m ≡ fits → jobTrouble (take m s) ≡ jobTrouble s

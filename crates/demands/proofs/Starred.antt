@@ -8,8 +8,8 @@ use Rattle.traverse.specs.Positions.{starredPositions}
 use Rattle.traverse.proofs.Theorems.{starred-positions}
 use Rattle.records.specs.Worked.{workedCertificates, workedRun}
 use Rattle.job.specs.Worked.{workedJob, workedRead}
-use Rattle.job.proofs.Examples.{worked}
-use Rattle.leverbonnet.specs.Starred.{StarredValue, ofNumbers, ofFactor, ofPercent, ofPositions, ofReading, Stands, starred}
+use Rattle.demands.proofs.Examples.{worked}
+use Rattle.demands.specs.Starred.{StarredValue, ofNumbers, ofFactor, ofPercent, ofPositions, ofReading, Stands, starred}
 
 pub starred-stand : Each Stands starred
 starred-stand =

@@ -118,24 +118,10 @@ each-once r ch l i j i-in j-in rule place = go (decLt i j) (decLt j i)
     go (no first) (yes higher) = absurd (not-before-itself (at j) (at i) (in-order r ch l j i higher i-in) (sym rule) (sym place))
     go (no first) (no second) = omega arith
 
--- the class of a rule is that of notes for 5 and 11
-note-exactly : (rule : ℕ) → (classOf rule ≡ note) ↔ ((rule ≡ 5) ⊎ (rule ≡ 11))
-unfolding classOf
-note-exactly rule = (notes (eqb rule 5) (eqb rule 11) refl refl, is-note)
-  where
-    notes : (a b : Bool) → eqb rule 5 ≡ a → eqb rule 11 ≡ b → _≡_ {A = ℕ} (cond (a || (b || false)) note fault) note → (rule ≡ 5) ⊎ (rule ≡ 11)
-    notes true b e d is = inl (eqb-true _ _ e)
-    notes false true e d is = inr (eqb-true _ _ d)
-    notes false false e d is = absurd (omega arith)
-
-    is-note : (rule ≡ 5) ⊎ (rule ≡ 11) → classOf rule ≡ note
-    is-note (inl e) = rw e
-    is-note (inr e) = rw e
-
--- Notes are 5 and 11; the rest are faults
-pub class-exactly : (r : Run) (ch : Chosen) (l : Lines) (i : ℕ) → i < length (findings r ch l) → (getD (findings r ch l) i noFinding .class ≡ note) ↔ ((getD (findings r ch l) i noFinding .rule ≡ 5) ⊎ (getD (findings r ch l) i noFinding .rule ≡ 11))
+-- Each finding has its rule's class
+pub class-at : (r : Run) (ch : Chosen) (l : Lines) (i : ℕ) → i < length (findings r ch l) → getD (findings r ch l) i noFinding .class ≡ classOf (getD (findings r ch l) i noFinding .rule)
 unfolding findings findingAt
-class-exactly r ch l i inside =
+class-at r ch l i inside =
     let o : OfRules (brokenAt r ch l) (placesOf (r .header .counts)) ruleCount (getD (findings r ch l) i noFinding) =
     all-members (brokenAt r ch l) (placesOf (r .header .counts)) ruleCount (at-index (findings r ch l) i inside) in
-    rw (o .of .is) (note-exactly (o .rule))
+    rw (o .of .is)

@@ -29,9 +29,9 @@ use Rattle.output.specs.Answers.{packed}
 use Rattle.output.specs.Bytes.{le, joined}
 use Rattle.output.specs.Splice.{spliced}
 use Rattle.writing.specs.Bytes.{entryBytes, sheetBytes, findingBytes, findingsBytes}
 use Rattle.leverbonnet.specs.Calls.{handed, outcome, success, answerOf, linesAfter, findingsAfter, countAnswer, numberAnswer}
 use Rattle.lines.specs.Starred.{workedLines}
-use Rattle.leverbonnet.specs.Starred.{PrintedJob}
+use Rattle.demands.specs.Starred.{PrintedJob}
 
 pub printed : PrintedJob
 unfolding grown floorRoot nearestRoot roundDiv within signedWithin sameIdentity sumTo time meteredVolume allowance leakLoss leakLosses correctedVolume meanOrifice meterPressure meterTemperature dryVolume waterVapor moisture unlessZero addScaled nozzleArea drawnGas isokinetic deduction finalWeights tares catch concentration metering stack sampling lines sheet dryWeight wetWeight stackPressure stackTemperature pointRoot meanRoot densityRoot velocity eligible keep chosen chosenFor holds apart factorMoved factor factorOf coefficientOf diametersOf broken brokenAt findingAt ruleFindings findingsTo findings accepted listed linesFor findingsFor missing moved uneven diameter halfDiameter undisturbed minimumPoints nextOf nextGrid nextAllowed short leaking lineAgainst unsteady grounds groundOf partOf ofKind besideOf placesOf placeAt classOf u16At u32At i16At first checks upTo padded filledTo recordTrouble runAt runStart readJob anyTo partsTrouble runTrouble numberBefore jobTrouble worked reduction chosenIn reducedRun runNamed packed le spliced joined entryBytes sheetBytes findingBytes findingsBytes handed outcome success answerOf linesAfter findingsAfter countAnswer numberAnswer workedLines

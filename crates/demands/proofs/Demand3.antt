@@ -1,0 +1,70 @@
+-- Demand 3. The findings that a successful call wrote are the rules that the run breaks, in order and each once; it answered their number, and
+-- accepted exactly if none is a fault.
+use Prim.Native.Nat.{ℕ, _*_, _<_}
+use mathlib.Core.Path.{_≡_, _∙_, ap, sym}
+use mathlib.Core.List.{List}
+use native.Mathlib.Omega.{arith}
+use lib.ListN.{length, take, drop, getD}
+use lib.Seq.{getD-take}
+use Rattle.arrays.proofs.Filled.{filled-front}
+use Rattle.findings.specs.declared.Finding.{Finding}
+use Rattle.findings.specs.Listing.{mostFindings, noFinding, accepted, listed, linesFor, findingsFor}
+use Rattle.findings.proofs.Accepting.{accepted-exactly}
+use Rattle.findings.proofs.Members.{listed-exactly}
+use Rattle.findings.proofs.Most.{at-most-for}
+use Rattle.demands.proofs.Sorted.{in-order, each-once, class-at}
+use Rattle.job.specs.Places.{runOf}
+use Rattle.job.proofs.ClearJobs.{clear-run}
+use Rattle.reduction.specs.Reducing.{worked, reduction, chosenIn, reducedRun}
+use Rattle.output.specs.Answers.{packed}
+use Rattle.output.proofs.Records.{record-at}
+use Rattle.writing.specs.Bytes.{findingSize, findingBytes, findingsBytes}
+use Rattle.writing.proofs.Sizes.{finding-length}
+use Rattle.demands.specs.Demands.{Call, Promised, Succeeds, findingAtIndex, FindingsOf, Demand3}
+use Rattle.demands.proofs.GoodParts.{good-job}
+use Rattle.demands.proofs.Succeeding.{Done, done}
+
+-- the list of run k's findings is what it is called
+findings-of : (s : List ℕ) (k : ℕ) → FindingsOf s k (findingsFor (runOf s k) (chosenIn s k))
+unfolding findingsFor
+findings-of s k =
+    let r = runOf s k in
+    let ch = chosenIn s k in
+    let l = linesFor r ch in
+    record { sorted = in-order r ch l; once = each-once r ch l; exactly = listed-exactly r ch l; class = class-at r ch l }
+
+-- what stands at an index of a list stands there in the array that holds it
+held-at : (fs : List Finding) (i : ℕ) → i < length fs → getD (listed fs .list) i noFinding ≡ getD fs i noFinding
+unfolding listed
+held-at fs i inside =
+    sym (getD-take (length fs) (listed fs .list) i noFinding inside) ∙ ap (λ gs. getD gs i noFinding) (filled-front mostFindings noFinding fs)
+
+pub findings-by-rules : (c : Call) → Promised c → Succeeds c → Demand3 c
+unfolding reducedRun reduction chosenIn worked findingsBytes listed packed
+findings-by-rules c kept success =
+    record {
+      index = k;
+      run = d .reducing .run;
+      list = list;
+      findings = findings-of (c .job) k;
+      accepted = accepted list;
+      answer = d .reducing .answer;
+      few = at-most-for (runOf (c .job) k) (chosenIn (c .job) k) (clear-run (c .job) (good-job (c .job) (d .reducing .good)) k (d .reducing .run .inside));
+      stands = accepted-exactly list;
+      bytes = written;
+    }
+  where
+    d : Done c
+    d = done c kept success
+
+    k : ℕ
+    k = d .index
+
+    list : List Finding
+    list = findingsFor (runOf (c .job) k) (chosenIn (c .job) k)
+
+    written : (i : ℕ) → i < length list → findingAtIndex (c .findingsOut) i ≡ findingBytes (getD list i noFinding)
+    written i inside =
+        ap (λ out. findingAtIndex out i) (d .reducing .findings)
+        ∙ record-at (λ n. findingBytes (getD (listed list .list) n noFinding)) findingSize (λ n. finding-length _) (c .findingsIn) (length list) i inside
+        ∙ ap findingBytes (held-at list i inside)

@@ -1,0 +1,147 @@
+-- The three demands, each over a call to reduce that keeps its promise: what it answered, and every byte afterwards.
+use Prim.Native.Nat.{ℕ, _-_, _*_, _^_, _≤_, _<_}
+use mathlib.Core.Path.{_≡_}
+use mathlib.Core.Bool.{Bool, true}
+use mathlib.Core.List.{List}
+use mathlib.Core.Logic.{_↔_}
+use lib.ListN.{length, take, drop, getD}
+use Rattle.fields.specs.declared.trouble.Trouble.the-variants.{Clear}
+use Rattle.certs.specs.Choosing.{SameForRun}
+use Rattle.rules.specs.Rules.{fault, classOf}
+use Rattle.findings.specs.declared.Finding.{Finding}
+use Rattle.findings.specs.Listing.{mostFindings, noFinding, linesFor, Breaks, HasFinding, Precedes}
+use Rattle.heads.specs.Values.{certificateOf}
+use Rattle.job.specs.Places.{certificateCountOf, runCountOf, runOf}
+use Rattle.job.specs.Troubles.{jobTrouble}
+use Rattle.reduction.specs.Reducing.{chosenIn, reducedRun}
+use Rattle.lines.specs.Sheet.{lineCount}
+use Rattle.output.specs.declared.Answer.{Answer}
+use Rattle.output.specs.declared.Answer.the-variants.{Done, Refused}
+use Rattle.output.specs.Answers.{packed}
+use Rattle.output.specs.Splice.{spliced}
+use Rattle.writing.specs.Bytes.{lineSize, entryBytes, sheetSize, sheetBytes, findingSize, findingBytes, findingsBytes}
+use Rattle.printing.specs.Printing.{printing, printingAnswer}
+use Rattle.layouts.specs.Outcomes.{roundOutcome, rectangleOutcome, layoutAnswer}
+use Rattle.leverbonnet.specs.Calls.{outcome, success, answerOf, countAnswer, numberAnswer, Reduces}
+use Rattle.demands.specs.ReadingOrder.{numberOf, GoodJob}
+use Rattle.demands.specs.Table.{CallRefused}
+use Rattle.demands.specs.Equations.{equation}
+
+-- A call to reduce: the job and the run that it was given, both buffers before and after it, and its answer
+pub record Call : Type 0 where
+  pub job : List ℕ
+  pub run : ℕ
+  pub linesIn : List ℕ
+  pub findingsIn : List ℕ
+  pub linesOut : List ℕ
+  pub findingsOut : List ℕ
+  pub answer : ℕ
+
+-- it keeps the promise of leverbonnet_reduce
+abbrev pub Promised : Call → Type 0
+Promised c = Reduces (c .job) (c .run) (c .linesIn) (c .findingsIn) (c .linesOut) (c .findingsOut) (c .answer)
+
+-- it succeeds: no refusal's number stands in the high 32 bits
+abbrev pub Succeeds : Call → Type 0
+Succeeds c = c .answer < 2 ^ 32
+
+-- exactly one run of a job has a number: run k
+pub record OnlyRun (s : List ℕ) (run k : ℕ) : Type 0 where
+  pub inside : k < runCountOf s
+  pub number : numberOf s k ≡ run
+  pub only : (j : ℕ) → j < runCountOf s → numberOf s j ≡ run → j ≡ k
+
+-- Demand 1: every call is refused by a row of the table, or reduces a run
+
+-- a row of the table applies to the call
+abbrev pub RowApplies : Call → ℕ → ℕ → Type 0
+RowApplies c number place = CallRefused (c .job) (c .run) (length (c .linesIn)) (length (c .findingsIn)) number place
+
+-- it is refused with that number and place, and nothing is written
+pub record RefusedWith (c : Call) (number place : ℕ) : Type 0 where
+  pub answer : c .answer ≡ packed (Refused number place)
+  pub lines : c .linesOut ≡ c .linesIn
+  pub findings : c .findingsOut ≡ c .findingsIn
+
+-- it reduces run k: the job is good, the outputs suffice, and they begin with the run's lines and findings
+pub record Reducing (c : Call) (k : ℕ) : Type 0 where
+  pub good : GoodJob (c .job)
+  pub run : OnlyRun (c .job) (c .run) k
+  pub linesRoom : sheetSize ≤ length (c .linesIn)
+  pub findingsRoom : findingSize * reducedRun (c .job) k .findings .count ≤ length (c .findingsIn)
+  pub answer : c .answer ≡ packed (Done (success (reducedRun (c .job) k .findings .count) (reducedRun (c .job) k .accepted)))
+  pub lines : c .linesOut ≡ spliced (c .linesIn) 0 (sheetBytes (reducedRun (c .job) k .sheet))
+  pub findings : c .findingsOut ≡ spliced (c .findingsIn) 0 (findingsBytes (reducedRun (c .job) k .findings .list) (reducedRun (c .job) k .findings .count))
+
+pub data CameTo (c : Call) : Type 0 where
+  byRow : (number place : ℕ) → RowApplies c number place → RefusedWith c number place → CameTo c
+  toRun : (k : ℕ) → Reducing c k → CameTo c
+
+-- what the calls can answer, each with whatever it is given
+pub data Given : Answer → Type 0 where
+  toReduce : (s : List ℕ) (run lines findings : ℕ) → Given (answerOf (outcome s run lines findings))
+  toRunCount : (s : List ℕ) → Given (countAnswer s)
+  toRunNumber : (s : List ℕ) (index : ℕ) → Given (numberAnswer s index)
+  toSheetText : (s : List ℕ) (room : ℕ) → Given (printingAnswer (printing s room))
+  toRoundLayout : (points diameter nozzle room : ℕ) → Given (layoutAnswer (roundOutcome points diameter nozzle room))
+  toRectLayout : (points first second room : ℕ) → Given (layoutAnswer (rectangleOutcome points first second room))
+
+pub record Demand1 (c : Call) : Type 0 where
+  -- it is refused by a row of the table, or it reduces a run
+  pub came : CameTo c
+  -- where a row applies, that is the answer
+  pub row : (number place : ℕ) → RowApplies c number place → RefusedWith c number place
+  -- and no other answer that a call can give is that number
+  pub alone : {a b : Answer} → Given a → Given b → packed a ≡ c .answer → packed b ≡ c .answer → a ≡ b
+
+-- Demand 2: of a call that succeeds, every line is its equation's value
+
+-- the bytes of line i, counted from 1
+abbrev pub lineAt : List ℕ → ℕ → List ℕ
+lineAt bytes i = take lineSize (drop (lineSize * (i - 1)) bytes)
+
+pub record Demand2 (c : Call) : Type 0 where
+  pub index : ℕ
+  -- exactly one run of the job has the asked number
+  pub run : OnlyRun (c .job) (c .run) index
+  -- the bytes of line i are its i-th equation's value, or say that it is absent
+  pub lines : (i : ℕ) → 1 ≤ i → i ≤ lineCount → lineAt (c .linesOut) i ≡ entryBytes (equation i (runOf (c .job) index) (chosenIn (c .job) index))
+
+-- Demand 3: of a call that succeeds, the findings are the rules that the run breaks
+
+-- the bytes of the finding at an index, counted from 0
+abbrev pub findingAtIndex : List ℕ → ℕ → List ℕ
+findingAtIndex bytes i = take findingSize (drop (findingSize * i) bytes)
+
+-- a list holds the findings of a run: in order, each once, exactly those rules that it breaks, and each with its class
+pub record FindingsOf (s : List ℕ) (k : ℕ) (list : List Finding) : Type 0 where
+  pub sorted : (i j : ℕ) → i < j → j < length list → Precedes (getD list i noFinding) (getD list j noFinding)
+  pub once : (i j : ℕ) → i < length list → j < length list → getD list i noFinding .rule ≡ getD list j noFinding .rule → getD list i noFinding .place ≡ getD list j noFinding .place → i ≡ j
+  pub exactly : (rule place : ℕ) → HasFinding list rule place ↔ Breaks (runOf s k) (chosenIn s k) (linesFor (runOf s k) (chosenIn s k)) rule place
+  pub class : (i : ℕ) → i < length list → getD list i noFinding .class ≡ classOf (getD list i noFinding .rule)
+
+pub record Demand3 (c : Call) : Type 0 where
+  pub index : ℕ
+  pub run : OnlyRun (c .job) (c .run) index
+  pub list : List Finding
+  pub findings : FindingsOf (c .job) index list
+  -- the answer's count is their number, and 65,536 more
+  pub accepted : Bool
+  pub answer : c .answer ≡ success (length list) accepted
+  pub few : length list ≤ mostFindings
+  -- exactly if none of them is a fault
+  pub stands : (accepted ≡ true) ↔ ((i : ℕ) → i < length list → getD list i noFinding .class ≡ fault → ⊥)
+  -- the bytes of the i-th are the i-th of the list
+  pub bytes : (i : ℕ) → i < length list → findingAtIndex (c .findingsOut) i ≡ findingBytes (getD list i noFinding)
+
+-- Beside it: two jobs that are both read hold the same record for a run of that number, and the same certificates for the meter, pitot tube and nozzle which it names
+pub record SameRun (s t : List ℕ) (run : ℕ) : Type 0 where
+  pub first : jobTrouble s ≡ Clear
+  pub second : jobTrouble t ≡ Clear
+  pub index : ℕ
+  pub inside : index < runCountOf s
+  pub number : runOf s index .header .number ≡ run
+  pub other : ℕ
+  pub within : other < runCountOf t
+  pub record′ : runOf s index ≡ runOf t other
+  pub certificates : SameForRun (runOf s index .header) (certificateOf s) (certificateCountOf s) (certificateOf t) (certificateCountOf t)

@@ -1,0 +1,15 @@
+-- How much of a file matters: two files that no call tells apart.
+use Prim.Native.Nat.{ℕ}
+use mathlib.Core.Path.{_≡_}
+use mathlib.Core.List.{List}
+use mathlib.Core.Logic.{_↔_}
+use Rattle.printing.specs.Jobs.{jobText}
+use Rattle.leverbonnet.specs.Calls.{countAnswer, numberAnswer, Reduces, PrintsText}
+
+-- every call on a file promises the same of both, and so does what the program prints
+pub record Alike (s t : List ℕ) : Type 0 where
+  pub reduce : (run : ℕ) {linesIn findingsIn linesOut findingsOut : List ℕ} {r : ℕ} → Reduces s run linesIn findingsIn linesOut findingsOut r ↔ Reduces t run linesIn findingsIn linesOut findingsOut r
+  pub runCount : countAnswer s ≡ countAnswer t
+  pub runNumber : (index : ℕ) → numberAnswer s index ≡ numberAnswer t index
+  pub sheetText : {old new : List ℕ} {r : ℕ} → PrintsText s old new r ↔ PrintsText t old new r
+  pub printed : jobText s ≡ jobText t
