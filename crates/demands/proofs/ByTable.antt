@@ -3,7 +3,7 @@ use Prim.Native.Nat.{ℕ, zero, suc, _+_, _≤_, _<_}
 use mathlib.Core.Path.{_≡_, refl, sym, _∙_, ap, subst, subst₂}
 use mathlib.Core.Bool.{Bool, true, false, true≢false, false≢true, not, _&&_, _||_}
 use mathlib.Core.List.{List}
-use mathlib.Core.Logic.{_⊎_, inl, inr}
+use mathlib.Core.Logic.{_⊎_, inl, inr, _↔_}
 use borrow.Author.Tests.{leb-false, le-leb, lt-leb, lt-ltb, le-ltb, ltb-true, ltb-false, ne-eqb, eqb-true, eqb-false, not-false}
 use borrow.Author.Needs.{zero≤}
 use lib.Dec.{leb, ltb, eqb}
@@ -21,10 +21,10 @@ use Rattle.heads.specs.Rows.{certificateTrouble}
 use Rattle.job.specs.Places.{certificateCountOf, runCountOf, runStart}
 use Rattle.job.specs.Troubles.{fileRows, fileTrouble, sameCertificate, repeats, entryTrouble, certificatesTrouble, goodSeconds, partsTrouble, runTrouble, runsTrouble, numberBefore, endTrouble, jobTrouble}
 use Rattle.job.proofs.LookBack.{any-stops}
-use Rattle.demands.specs.ReadingOrder.{Fixed, fileHeader, oneCertificate, runHeader, onePoint, oneSegment, oneWeighing, numberOf, countsOf, startOf, sizeOf, rowsOf, Complete, Good, Repeats, pointSeconds, segmentSeconds, GoodJob, ReachedCertificate, ReachedRun, ReachedParts, ReachedSeconds, ReachedEnd, Reached}
+use Rattle.demands.specs.ReadingOrder.{Fixed, fileHeader, oneCertificate, runHeader, onePoint, oneSegment, oneWeighing, numberOf, countsOf, startOf, sizeOf, rowsOf, Complete, Good, totalOfPoints, totalOfSegments, GoodJob, ReachedCertificate, ReachedRun, ReachedParts, Reached}
 use Rattle.demands.specs.Table.{FirstBad, here, later, NotNew, certificateAgain, numberNotAbove, FileRefused, row1, row2, row3, row4, row5, row6, row7, row8}
 use Rattle.demands.proofs.Troubles.{Met, early, late, met, failed, MetIn, met-in, unless-bad, RecordMet, short, bad, record-met, record-short, bad-checks, record-bad}
-use Rattle.demands.proofs.GoodParts.{fixedTrouble, size-some, clear-good, good-clear, repeats-same, same-repeats, one-found, clear-certificate, above-before, before-above, clear-run, points-clear, segments-clear, weighings-clear, number-clear, certificates-clear, runs-clear}
+use Rattle.demands.proofs.GoodParts.{fixedTrouble, size-some, clear-good, good-clear, repeats-same, same-repeats, one-found, clear-certificate, above-before, before-above, clear-run, points-clear, segments-clear, weighings-clear, number-clear, certificates-clear, runs-clear, clear-job, good-job}
 
 -- Where a row applies, that is the reader's answer
 
@@ -79,10 +79,10 @@ unfolding numberBefore runAt
 not-above s k low = le-ltb (numberOf s k) (numberOf s (suc k)) low
 
 -- the seconds are judged wrong where they are too many or not the same
-wrong-seconds : (s : List ℕ) (k : ℕ) → (greatestTotalSeconds < pointSeconds s k) ⊎ (segmentSeconds s k ≡ pointSeconds s k → ⊥) → goodSeconds s (runStart s k) (countsOf s k) ≡ false
+wrong-seconds : (s : List ℕ) (k : ℕ) → (greatestTotalSeconds < totalOfPoints s k) ⊎ (totalOfSegments s k ≡ totalOfPoints s k → ⊥) → goodSeconds s (runStart s k) (countsOf s k) ≡ false
 unfolding within
-wrong-seconds s k (inl many) = rw (lt-leb (pointSeconds s k) greatestTotalSeconds many, and-false)
-wrong-seconds s k (inr other) = rw (ne-eqb (segmentSeconds s k) (pointSeconds s k) other, and-false)
+wrong-seconds s k (inl many) = rw (lt-leb (totalOfPoints s k) greatestTotalSeconds many, and-false)
+wrong-seconds s k (inr other) = rw (ne-eqb (totalOfSegments s k) (totalOfPoints s k) other, and-false)
 
 pub row-told : (s : List ℕ) {n p : ℕ} → FileRefused s n p → jobTrouble s ≡ At n p
 unfolding jobTrouble runTrouble partsTrouble runAt
@@ -113,13 +113,13 @@ row-told s (row8 r more) =
     ∙ unless-bad leftOver (runStart s (runCountOf s)) (lt-leb _ _ more)
 
 -- and where they are judged wrong, one or the other
-seconds-wrong : (s : List ℕ) (k : ℕ) → goodSeconds s (runStart s k) (countsOf s k) ≡ false → (greatestTotalSeconds < pointSeconds s k) ⊎ (segmentSeconds s k ≡ pointSeconds s k → ⊥)
+seconds-wrong : (s : List ℕ) (k : ℕ) → goodSeconds s (runStart s k) (countsOf s k) ≡ false → (greatestTotalSeconds < totalOfPoints s k) ⊎ (totalOfSegments s k ≡ totalOfPoints s k → ⊥)
 unfolding within
-seconds-wrong s k e = go (leb (pointSeconds s k) greatestTotalSeconds) refl
+seconds-wrong s k e = go (leb (totalOfPoints s k) greatestTotalSeconds) refl
   where
-    go : (t : Bool) → leb (pointSeconds s k) greatestTotalSeconds ≡ t → (greatestTotalSeconds < pointSeconds s k) ⊎ (segmentSeconds s k ≡ pointSeconds s k → ⊥)
+    go : (t : Bool) → leb (totalOfPoints s k) greatestTotalSeconds ≡ t → (greatestTotalSeconds < totalOfPoints s k) ⊎ (totalOfSegments s k ≡ totalOfPoints s k → ⊥)
     go false f = inl (leb-false _ _ f)
-    go true f = inr (eqb-false _ _ (rw (le-leb 0 (pointSeconds s k) zero≤, f) at e))
+    go true f = inr (eqb-false _ _ (rw (le-leb 0 (totalOfPoints s k) zero≤, f) at e))
 
 -- a number that is not above the one before: the run is not the first
 not-new : (s : List ℕ) (k : ℕ) → ReachedRun s k → Good s (runHeader k) → ltb (numberBefore s k) (numberOf s k) ≡ false → NotNew s (runStart s k)
@@ -323,3 +323,7 @@ told-row s {n} {p} e = file (met _ _ e)
     file : Met (fileTrouble s) (first certificates (first runs end)) n p → FileRefused s n p
     file (early t) = of-header s t
     file (late c t) = behind-certificates (clear-good s fileHeader c) (met _ _ t)
+
+-- The reader meets a trouble exactly where a row applies, and none exactly where the job is good
+pub reader-by-table : (s : List ℕ) → ((n p : ℕ) → (jobTrouble s ≡ At n p) ↔ FileRefused s n p) × ((jobTrouble s ≡ Clear) ↔ GoodJob s)
+reader-by-table s = ((λ n p. (told-row s, row-told s)), (clear-job s, good-job s))

@@ -1,7 +1,7 @@
 -- Demand 1. Every call is refused by a row of the table, with nothing written, or it reduces a run; and where a row applies, that is the answer.
 use Prim.Native.Nat.{ℕ, _*_, _≤_, _<_}
 use mathlib.Core.Path.{_≡_, refl, sym, _∙_, ap}
-use mathlib.Core.Bool.{Bool, true, false, cond, _||_}
+use mathlib.Core.Bool.{Bool, true, false, _||_}
 use mathlib.Core.List.{List}
 use mathlib.Core.Logic.{_⊎_, inl, inr}
 use borrow.Author.Tests.{ltb-true, ltb-false, lt-ltb, le-ltb}
@@ -18,9 +18,9 @@ use Rattle.reduction.specs.Reducing.{reducedRun, runNamed}
 use Rattle.reduction.proofs.Naming.{found-inside, named, none-named}
 use Rattle.output.specs.Answers.{packed}
 use Rattle.writing.specs.Bytes.{sheetSize, findingSize}
-use Rattle.leverbonnet.specs.Calls.{Outcome, refused, reduced, handed, ofTrouble, outcome, answerOf, linesAfter, findingsAfter}
+use Rattle.leverbonnet.specs.Calls.{refused, reduced, handed, ofTrouble, outcome, answerOf, linesAfter, findingsAfter}
 use Rattle.demands.specs.Table.{CallRefused, ofFile, row9, row10}
-use Rattle.demands.specs.Demands.{Call, Promised, RowApplies, RefusedWith, Reducing, CameTo, byRow, toRun, Demand1}
+use Rattle.demands.specs.Demands.{Call, Promised, RowApplies, RefusedWith, ReducesRun, CameTo, byRow, toRun, Demand1}
 use Rattle.demands.proofs.GoodParts.{clear-job, good-job}
 use Rattle.demands.proofs.ByTable.{row-told, told-row}
 use Rattle.demands.proofs.NamedRun.{only-run, outcome-of-run, outcome-of-none}
@@ -62,7 +62,7 @@ module _ (c : Call) (kept : Promised c) where
   by-row n p row = byRow n p row (row-answered n p row)
 
   -- a run is handed over where both outputs suffice
-  reducing : jobTrouble (c .job) ≡ Clear → (k : ℕ) → k < runCountOf (c .job) → runOf (c .job) k .header .number ≡ c .run → sheetSize ≤ length (c .linesIn) → findingSize * reducedRun (c .job) k .findings .count ≤ length (c .findingsIn) → Reducing c k
+  reducing : jobTrouble (c .job) ≡ Clear → (k : ℕ) → k < runCountOf (c .job) → runOf (c .job) k .header .number ≡ c .run → sheetSize ≤ length (c .linesIn) → findingSize * reducedRun (c .job) k .findings .count ≤ length (c .findingsIn) → ReducesRun c k
   unfolding handed answerOf linesAfter findingsAfter
   reducing clear k inside number linesRoom findingsRoom =
       let r = reducedRun (c .job) k in

@@ -1,9 +1,8 @@
 -- Demand 2. Every line that a successful call wrote is its equation's value, of the only run of that number.
-use Prim.Native.Nat.{ℕ, suc, _-_, _*_, _≤_, _<_}
+use Prim.Native.Nat.{ℕ, _-_, _*_, _≤_, _<_}
 use mathlib.Core.Path.{_≡_, refl, _∙_, ap}
-use mathlib.Core.List.{List}
 use native.Mathlib.Omega.{arith}
-use lib.ListN.{take, drop, getD}
+use lib.ListN.{getD}
 use Rattle.records.specs.declared.Run.{Run}
 use Rattle.metering.specs.Metering.{metering}
 use Rattle.stack.specs.Stack.{stack}
@@ -17,7 +16,7 @@ use Rattle.output.proofs.Records.{record-at}
 use Rattle.writing.specs.Bytes.{lineSize, entryBytes, sheetBytes}
 use Rattle.writing.proofs.Sizes.{entry-length}
 use Rattle.demands.specs.Equations.{equations, equation}
-use Rattle.demands.specs.Demands.{Call, Promised, Succeeds, lineAt, Demand2}
+use Rattle.demands.specs.Demands.{Call, Promised, Succeeds, bytesOfLine, Demand2}
 use Rattle.demands.proofs.Succeeding.{Done, done}
 
 -- the sheet of a run's lines holds the equations in order
@@ -35,10 +34,10 @@ lines-by-equations c kept success = record { index = k; run = d .reducing .run; 
     k : ℕ
     k = d .index
 
-    written : (i : ℕ) → 1 ≤ i → i ≤ lineCount → lineAt (c .linesOut) i ≡ entryBytes (equation i (runOf (c .job) k) (chosenIn (c .job) k))
+    written : (i : ℕ) → 1 ≤ i → i ≤ lineCount → bytesOfLine (c .linesOut) i ≡ entryBytes (equation i (runOf (c .job) k) (chosenIn (c .job) k))
     written i some few =
         let r = runOf (c .job) k in
         let ch = chosenIn (c .job) k in
-        ap (λ out. lineAt out i) (d .reducing .lines)
+        ap (λ out. bytesOfLine out i) (d .reducing .lines)
         ∙ record-at (λ n. entryBytes (getD (sheet (linesFor r ch) .entries) n noEntry)) lineSize (λ n. entry-length _) (c .linesIn) lineCount (i - 1) (omega arith)
         ∙ ap (λ entries. entryBytes (getD entries (i - 1) noEntry)) (sheet-equations r ch)

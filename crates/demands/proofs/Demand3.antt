@@ -3,8 +3,7 @@
 use Prim.Native.Nat.{ℕ, _*_, _<_}
 use mathlib.Core.Path.{_≡_, _∙_, ap, sym}
 use mathlib.Core.List.{List}
-use native.Mathlib.Omega.{arith}
-use lib.ListN.{length, take, drop, getD}
+use lib.ListN.{length, getD}
 use lib.Seq.{getD-take}
 use Rattle.arrays.proofs.Filled.{filled-front}
 use Rattle.findings.specs.declared.Finding.{Finding}
@@ -20,7 +19,7 @@ use Rattle.output.specs.Answers.{packed}
 use Rattle.output.proofs.Records.{record-at}
 use Rattle.writing.specs.Bytes.{findingSize, findingBytes, findingsBytes}
 use Rattle.writing.proofs.Sizes.{finding-length}
-use Rattle.demands.specs.Demands.{Call, Promised, Succeeds, findingAtIndex, FindingsOf, Demand3}
+use Rattle.demands.specs.Demands.{Call, Promised, Succeeds, bytesOfFinding, FindingsOf, Demand3}
 use Rattle.demands.proofs.GoodParts.{good-job}
 use Rattle.demands.proofs.Succeeding.{Done, done}
 
@@ -63,8 +62,8 @@ findings-by-rules c kept success =
     list : List Finding
     list = findingsFor (runOf (c .job) k) (chosenIn (c .job) k)
 
-    written : (i : ℕ) → i < length list → findingAtIndex (c .findingsOut) i ≡ findingBytes (getD list i noFinding)
+    written : (i : ℕ) → i < length list → bytesOfFinding (c .findingsOut) i ≡ findingBytes (getD list i noFinding)
     written i inside =
-        ap (λ out. findingAtIndex out i) (d .reducing .findings)
+        ap (λ out. bytesOfFinding out i) (d .reducing .findings)
         ∙ record-at (λ n. findingBytes (getD (listed list .list) n noFinding)) findingSize (λ n. finding-length _) (c .findingsIn) (length list) i inside
         ∙ ap findingBytes (held-at list i inside)

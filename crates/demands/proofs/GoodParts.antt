@@ -5,13 +5,12 @@ use mathlib.Core.Bool.{Bool, true, false, not, true≢false, false≢true, _||_}
 use mathlib.Core.List.{List}
 use native.Mathlib.Nat.{lt-trans, lt-suc-self}
 use native.Mathlib.Omega.{arith}
-use borrow.Author.Tests.{leb-true, le-leb, lt-ltb, ltb-true, eq-eqb, eqb-true, not-true}
+use borrow.Author.Tests.{le-leb, lt-ltb, eq-eqb, eqb-true, not-true}
 use lib.Dec.{ltb, eqb, lit≤}
-use lib.ListN.{length}
-use Rattle.readings.specs.Ranges.{within, leastRunNumber, greatestRunNumber, greatestTotalSeconds, totalSeconds}
-use Rattle.readings.proofs.Ranges.{both-left, both-right, within-least, within-greatest, within-from}
+use Rattle.readings.specs.Ranges.{within, leastRunNumber, greatestRunNumber, greatestTotalSeconds}
+use Rattle.readings.proofs.Ranges.{both-left, both-right, within-least, within-greatest}
 use Rattle.fields.specs.declared.trouble.Trouble.{Trouble}
-use Rattle.fields.specs.declared.trouble.Trouble.the-variants.{Clear, At}
+use Rattle.fields.specs.declared.trouble.Trouble.the-variants.{Clear}
 use Rattle.fields.specs.Trouble.{troubleUnless, repeated, wrongSeconds, leftOver, recordTrouble, upTo}
 use Rattle.fields.proofs.FirstTrouble.{first-clear, clear-left, clear-right, unless-clear, each-clear}
 use Rattle.fields.proofs.RecordTrouble.{complete-at, good-at}
@@ -19,16 +18,15 @@ use Rattle.records.specs.declared.Certificate.{Certificate}
 use Rattle.records.specs.declared.Identity.{Identity}
 use Rattle.records.specs.Records.{sameIdentity}
 use Rattle.records.proofs.Identities.{same-equal, same-refl}
-use Rattle.certs.specs.Choosing.{Of}
 use Rattle.heads.specs.Values.{runHeaderSize, certificatePlace}
 use Rattle.parts.specs.Values.{pointPlace, segmentPlace, runAt}
 use Rattle.parts.specs.Rows.{pointsTrouble, segmentsTrouble, weighingsTrouble}
-use Rattle.job.specs.Places.{certificateCountOf, runCountOf, runStart}
+use Rattle.job.specs.Places.{runCountOf, runStart}
 use Rattle.job.specs.Troubles.{sameCertificate, anyTo, repeats, entryTrouble, goodSeconds, partsTrouble, runTrouble, runsTrouble, numberBefore, jobTrouble}
 use Rattle.job.proofs.ClearJobs.{job-clear}
 use Rattle.job.proofs.ClearRuns.{run-clear}
 use Rattle.job.proofs.LookBack.{none-of}
-use Rattle.demands.specs.ReadingOrder.{Fixed, fileHeader, oneCertificate, runHeader, onePoint, oneSegment, oneWeighing, numberOf, countsOf, startOf, sizeOf, rowsOf, Good, Repeats, GoodCertificate, GoodCertificates, Above, GoodPoints, GoodSegments, GoodWeighings, pointSeconds, segmentSeconds, GoodRun, GoodRuns, GoodJob}
+use Rattle.demands.specs.ReadingOrder.{Fixed, fileHeader, oneCertificate, runHeader, onePoint, oneSegment, oneWeighing, numberOf, countsOf, startOf, sizeOf, rowsOf, Good, Repeats, GoodCertificate, GoodCertificates, Above, GoodPoints, GoodSegments, GoodWeighings, totalOfPoints, totalOfSegments, GoodRun, GoodRuns, GoodJob}
 use Rattle.demands.proofs.Troubles.{all-clear, unless-good, record-good}
 
 -- the trouble met in a fixed part
@@ -137,7 +135,7 @@ number-clear s k g h = unless-good repeated (runStart s k) (lt-ltb _ _ (before-a
 
 good-seconds : (s : List ℕ) (k : ℕ) → GoodRun s k → goodSeconds s (runStart s k) (countsOf s k) ≡ true
 unfolding within
-good-seconds s k g = rw (le-leb 0 (pointSeconds s k) (omega arith), le-leb (pointSeconds s k) greatestTotalSeconds (g .total), eq-eqb (segmentSeconds s k) (pointSeconds s k) (g .balanced))
+good-seconds s k g = rw (le-leb 0 (totalOfPoints s k) (omega arith), le-leb (totalOfPoints s k) greatestTotalSeconds (g .total), eq-eqb (totalOfSegments s k) (totalOfPoints s k) (g .balanced))
 
 pub good-run : (s : List ℕ) (k : ℕ) → GoodRun s k → runTrouble s (runStart s k) (numberBefore s k) ≡ Clear
 unfolding runTrouble partsTrouble runAt

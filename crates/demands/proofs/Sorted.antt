@@ -7,7 +7,6 @@ use mathlib.Core.Logic.{_⊎_, inl, inr, _↔_}
 use native.Mathlib.Nat.{not-suc-le-zero, le-of-suc-le-suc, le-of-lt, le-refl}
 use native.Mathlib.Decide.{decLt}
 use native.Mathlib.Omega.{arith}
-use borrow.Author.Tests.{eqb-true}
 use lib.Dec.{eqb}
 use lib.ListN.{length, getD}
 use Rattle.readings.specs.Grids.{oneOf}
@@ -16,7 +15,7 @@ use Rattle.records.specs.declared.Run.{Run}
 use Rattle.lines.specs.declared.Lines.{Lines}
 use Rattle.certs.specs.declared.Chosen.{Chosen}
 use Rattle.findings.specs.declared.Finding.{Finding}
-use Rattle.rules.specs.Rules.{ruleCount, placesOf, placeAt, fault, note, classOf}
+use Rattle.rules.specs.Rules.{ruleCount, placesOf, placeAt, classOf}
 use Rattle.findings.specs.Listing.{brokenAt, findingAt, ruleFindings, findingsTo, findings, noFinding, Precedes}
 use Rattle.findings.proofs.Members.{at-index, OfRule, OfRules, rule-members, all-members}
 

@@ -7,7 +7,7 @@ use lib.Dec.{lit≤}
 use Rattle.demands.proofs.Numbers.{numbers}
 use Rattle.output.specs.Answers.{packed}
 use Rattle.demands.specs.Table.{CallRefused, ofFile, row9, row10}
-use Rattle.demands.specs.Demands.{Call, Promised, Succeeds, Reducing, CameTo, byRow, toRun}
+use Rattle.demands.specs.Demands.{Call, Promised, Succeeds, ReducesRun, CameTo, byRow, toRun}
 use Rattle.demands.proofs.ByTable.{row-told}
 use Rattle.demands.proofs.Demand1.{came-to}
 
@@ -19,7 +19,7 @@ some-number (row9 good k inside number short) = lit≤ tt
 -- the run that a successful call reduced
 pub record Done (c : Call) : Type 0 where
   pub index : ℕ
-  pub reducing : Reducing c index
+  pub reducing : ReducesRun c index
 
 pub done : (c : Call) → Promised c → Succeeds c → Done c
 unfolding packed

@@ -64,7 +64,7 @@ pub record RefusedWith (c : Call) (number place : ℕ) : Type 0 where
   pub findings : c .findingsOut ≡ c .findingsIn
 
 -- it reduces run k: the job is good, the outputs suffice, and they begin with the run's lines and findings
-pub record Reducing (c : Call) (k : ℕ) : Type 0 where
+pub record ReducesRun (c : Call) (k : ℕ) : Type 0 where
   pub good : GoodJob (c .job)
   pub run : OnlyRun (c .job) (c .run) k
   pub linesRoom : sheetSize ≤ length (c .linesIn)
@@ -75,7 +75,7 @@ pub record Reducing (c : Call) (k : ℕ) : Type 0 where
 
 pub data CameTo (c : Call) : Type 0 where
   byRow : (number place : ℕ) → RowApplies c number place → RefusedWith c number place → CameTo c
-  toRun : (k : ℕ) → Reducing c k → CameTo c
+  toRun : (k : ℕ) → ReducesRun c k → CameTo c
 
 -- what the calls can answer, each with whatever it is given
 pub data Given : Answer → Type 0 where
@@ -97,21 +97,21 @@ pub record Demand1 (c : Call) : Type 0 where
 -- Demand 2: of a call that succeeds, every line is its equation's value
 
 -- the bytes of line i, counted from 1
-abbrev pub lineAt : List ℕ → ℕ → List ℕ
-lineAt bytes i = take lineSize (drop (lineSize * (i - 1)) bytes)
+abbrev pub bytesOfLine : List ℕ → ℕ → List ℕ
+bytesOfLine bytes i = take lineSize (drop (lineSize * (i - 1)) bytes)
 
 pub record Demand2 (c : Call) : Type 0 where
   pub index : ℕ
   -- exactly one run of the job has the asked number
   pub run : OnlyRun (c .job) (c .run) index
   -- the bytes of line i are its i-th equation's value, or say that it is absent
-  pub lines : (i : ℕ) → 1 ≤ i → i ≤ lineCount → lineAt (c .linesOut) i ≡ entryBytes (equation i (runOf (c .job) index) (chosenIn (c .job) index))
+  pub lines : (i : ℕ) → 1 ≤ i → i ≤ lineCount → bytesOfLine (c .linesOut) i ≡ entryBytes (equation i (runOf (c .job) index) (chosenIn (c .job) index))
 
 -- Demand 3: of a call that succeeds, the findings are the rules that the run breaks
 
 -- the bytes of the finding at an index, counted from 0
-abbrev pub findingAtIndex : List ℕ → ℕ → List ℕ
-findingAtIndex bytes i = take findingSize (drop (findingSize * i) bytes)
+abbrev pub bytesOfFinding : List ℕ → ℕ → List ℕ
+bytesOfFinding bytes i = take findingSize (drop (findingSize * i) bytes)
 
 -- a list holds the findings of a run: in order, each once, exactly those rules that it breaks, and each with its class
 pub record FindingsOf (s : List ℕ) (k : ℕ) (list : List Finding) : Type 0 where
@@ -132,7 +132,7 @@ pub record Demand3 (c : Call) : Type 0 where
   -- exactly if none of them is a fault
   pub stands : (accepted ≡ true) ↔ ((i : ℕ) → i < length list → getD list i noFinding .class ≡ fault → ⊥)
   -- the bytes of the i-th are the i-th of the list
-  pub bytes : (i : ℕ) → i < length list → findingAtIndex (c .findingsOut) i ≡ findingBytes (getD list i noFinding)
+  pub bytes : (i : ℕ) → i < length list → bytesOfFinding (c .findingsOut) i ≡ findingBytes (getD list i noFinding)
 
 -- Beside it: two jobs that are both read hold the same record for a run of that number, and the same certificates for the meter, pitot tube and nozzle which it names
 pub record SameRun (s t : List ℕ) (run : ℕ) : Type 0 where

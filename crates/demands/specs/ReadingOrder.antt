@@ -104,11 +104,11 @@ abbrev pub GoodWeighings : List ℕ → ℕ → ℕ → Type 0
 GoodWeighings s k n = (i : ℕ) → i < n → Good s (oneWeighing k i)
 
 -- the total seconds of its points, and of its segments
-abbrev pub pointSeconds : List ℕ → ℕ → ℕ
-pointSeconds s k = pointTotal s (runStart s k) (countsOf s k)
+abbrev pub totalOfPoints : List ℕ → ℕ → ℕ
+totalOfPoints s k = pointTotal s (runStart s k) (countsOf s k)
 
-abbrev pub segmentSeconds : List ℕ → ℕ → ℕ
-segmentSeconds s k = segmentTotal s (runStart s k) (countsOf s k)
+abbrev pub totalOfSegments : List ℕ → ℕ → ℕ
+totalOfSegments s k = segmentTotal s (runStart s k) (countsOf s k)
 
 -- a good run, in reading order
 pub record GoodRun (s : List ℕ) (k : ℕ) : Type 0 where
@@ -117,8 +117,8 @@ pub record GoodRun (s : List ℕ) (k : ℕ) : Type 0 where
   pub points : GoodPoints s k (countsOf s k .points)
   pub segments : GoodSegments s k (countsOf s k .segments)
   pub weighings : GoodWeighings s k (countsOf s k .weighings)
-  pub total : pointSeconds s k ≤ greatestTotalSeconds
-  pub balanced : segmentSeconds s k ≡ pointSeconds s k
+  pub total : totalOfPoints s k ≤ greatestTotalSeconds
+  pub balanced : totalOfSegments s k ≡ totalOfPoints s k
 
 -- the first n are good
 abbrev pub GoodRuns : List ℕ → ℕ → Type 0

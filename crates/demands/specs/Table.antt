@@ -14,7 +14,7 @@ use Rattle.job.specs.Places.{runCountOf, runStart}
 use Rattle.job.specs.Troubles.{marked}
 use Rattle.reduction.specs.Reducing.{reducedRun}
 use Rattle.writing.specs.Bytes.{sheetSize, findingSize}
-use Rattle.demands.specs.ReadingOrder.{Fixed, fileHeader, oneCertificate, runHeader, numberOf, startOf, sizeOf, rowsOf, Complete, Good, Repeats, pointSeconds, segmentSeconds, GoodJob, ReachedCertificate, ReachedRun, ReachedSeconds, ReachedEnd, Reached}
+use Rattle.demands.specs.ReadingOrder.{Fixed, fileHeader, oneCertificate, runHeader, numberOf, startOf, sizeOf, rowsOf, Complete, Good, Repeats, totalOfPoints, totalOfSegments, GoodJob, ReachedCertificate, ReachedRun, ReachedSeconds, ReachedEnd, Reached}
 
 -- the first field that is out of its range has that number and place: those before it are good
 pub data FirstBad (number place : ℕ) : List Row → Type 0 where
@@ -41,7 +41,7 @@ pub data FileRefused (s : List ℕ) : ℕ → ℕ → Type 0 where
   -- 6: a certificate repeats kind, maker, serial and day of an earlier one, or a run number is not above the one before; record start
   row6 : {place : ℕ} → NotNew s place → FileRefused s 6 place
   -- 7: point seconds total over 36,000, or segment seconds total differs from it; run start
-  row7 : (k : ℕ) → ReachedSeconds s k → (greatestTotalSeconds < pointSeconds s k) ⊎ (segmentSeconds s k ≡ pointSeconds s k → ⊥) → FileRefused s 7 (runStart s k)
+  row7 : (k : ℕ) → ReachedSeconds s k → (greatestTotalSeconds < totalOfPoints s k) ⊎ (totalOfSegments s k ≡ totalOfPoints s k → ⊥) → FileRefused s 7 (runStart s k)
   -- 8: bytes are left over; first of them
   row8 : ReachedEnd s → runStart s (runCountOf s) < length s → FileRefused s 8 (runStart s (runCountOf s))
 
