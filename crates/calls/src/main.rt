@@ -11,6 +11,9 @@
 // A length above its most counts as its most, and a job that the input cuts short is made up with zeros. The
 // reply is the call's answer as a u64, 0 where there is no such call, then both outputs as the call left them.
 
+ghost use mathlib.Core.Path.{_≡_};
+ghost use Prim.Native.Nat.{min};
+ghost use lib.ListN.{length, replicate};
 ghost use Rattle.io.specs.Counts.{Counts};
 use fields::numbers;
 use leverbonnet::leverbonnet_rect_layout;
@@ -25,18 +28,18 @@ use libc::STDOUT_FILENO;
 // How many bytes the header of a request has.
 const HEADER_SIZE: usize = 16;
 
-// A length of the header, as far as the buffer goes.
-fn within(length: usize, buf: &[u8]) -> usize
+// A size that the header gives, as far as the buffer goes: the smaller of the size and the buffer's length.
+fn within(size: usize, buf: &[u8]) -> usize
     ensures { λ r. ⌜ Counts r (now (buf .entry)) ⌝ }
+    ensures { λ r. ⌜ r ≡ min size (length (now (buf .entry))) ⌝ }
 {
-    if length < buf.len() {
-        length
-    } else {
-        buf.len()
-    }
+    if size < buf.len() { size } else { buf.len() }
 }
 
-fn fill(output: &mut [u8], byte: u8) {
+// Every byte of the output is `byte` afterwards.
+fn fill(output: &mut [u8], byte: u8)
+    ensures { λ _. ⌜ now (output .exit) ≡ replicate (length (now (output .entry))) byte ⌝ }
+{
     let mut i = 0;
     while i < output.len() {
         output[i] = byte;
