@@ -15,6 +15,7 @@ ghost use mathlib.Core.Path.{_≡_};
 ghost use Prim.Native.Nat.{min};
 ghost use lib.ListN.{length, replicate};
 ghost use Rattle.io.specs.Counts.{Counts};
+ghost use Rattle.calls.specs.Requests.{Replied};
 use fields::numbers;
 use leverbonnet::leverbonnet_rect_layout;
 use leverbonnet::leverbonnet_reduce;
@@ -47,8 +48,11 @@ fn fill(output: &mut [u8], byte: u8)
     }
 }
 
-// The answer of the call that a header names.
-fn answer(header: &[u8; HEADER_SIZE], job: &[u8], first: &mut [u8], second: &mut [u8]) -> u64 {
+// The answer of the call that a header names, 0 where there is no such call. What the call does not write stays
+// as it was in both outputs.
+fn answer(header: &[u8; HEADER_SIZE], job: &[u8], first: &mut [u8], second: &mut [u8]) -> u64
+    ensures { λ r. ⌜ Replied (now (header .entry)) (now (job .entry)) (now (first .entry)) (now (second .entry)) (now (first .exit)) (now (second .exit)) r ⌝ }
+{
     let a = numbers::u16_at(header, 2);
     let b = numbers::u16_at(header, 4);
     let c = numbers::u16_at(header, 6);
