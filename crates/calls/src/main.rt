@@ -11,7 +11,12 @@
 // A length above its most counts as its most, and a job that the input cuts short is made up with zeros. The
 // reply is the call's answer as a u64, 0 where there is no such call, then both outputs as the call left them.
 
+ghost use mathlib.Core.Path.{_≡_};
+ghost use Prim.Native.Nat.{min};
+ghost use lib.ListN.{length, replicate};
 ghost use Rattle.io.specs.Counts.{Counts};
+ghost use Rattle.calls.specs.Requests.{Replied};
+use fields::numbers;
 use leverbonnet::leverbonnet_rect_layout;
 use leverbonnet::leverbonnet_reduce;
 use leverbonnet::leverbonnet_round_layout;
@@ -24,28 +29,18 @@ use libc::STDOUT_FILENO;
 // How many bytes the header of a request has.
 const HEADER_SIZE: usize = 16;
 
-// Two bytes of a header as a number.
-fn word(low: u8, high: u8) -> u16 {
-    low as u16 + 256 * (high as u16)
-}
-
-// The job's length in a header.
-fn job_length(header: &[u8; HEADER_SIZE]) -> usize {
-    word(header[12], header[13]) as usize + 65536 * (word(header[14], header[15]) as usize)
-}
-
-// A length of the header, as far as the buffer goes.
-fn within(length: usize, buf: &[u8]) -> usize
+// A size that the header gives, as far as the buffer goes: the smaller of the size and the buffer's length.
+fn within(size: usize, buf: &[u8]) -> usize
     ensures { λ r. ⌜ Counts r (now (buf .entry)) ⌝ }
+    ensures { λ r. ⌜ r ≡ min size (length (now (buf .entry))) ⌝ }
 {
-    if length < buf.len() {
-        length
-    } else {
-        buf.len()
-    }
+    if size < buf.len() { size } else { buf.len() }
 }
 
-fn fill(output: &mut [u8], byte: u8) {
+// Every byte of the output is `byte` afterwards.
+fn fill(output: &mut [u8], byte: u8)
+    ensures { λ _. ⌜ now (output .exit) ≡ replicate (length (now (output .entry))) byte ⌝ }
+{
     let mut i = 0;
     while i < output.len() {
         output[i] = byte;
@@ -53,11 +48,14 @@ fn fill(output: &mut [u8], byte: u8) {
     }
 }
 
-// The answer of the call that a header names.
-fn answer(header: &[u8; HEADER_SIZE], job: &[u8], first: &mut [u8], second: &mut [u8]) -> u64 {
-    let a = word(header[2], header[3]);
-    let b = word(header[4], header[5]);
-    let c = word(header[6], header[7]);
+// The answer of the call that a header names, 0 where there is no such call. What the call does not write stays
+// as it was in both outputs.
+fn answer(header: &[u8; HEADER_SIZE], job: &[u8], first: &mut [u8], second: &mut [u8]) -> u64
+    ensures { λ r. ⌜ Replied (now (header .entry)) (now (job .entry)) (now (first .entry)) (now (second .entry)) (now (first .exit)) (now (second .exit)) r ⌝ }
+{
+    let a = numbers::u16_at(header, 2);
+    let b = numbers::u16_at(header, 4);
+    let c = numbers::u16_at(header, 6);
     let call = header[0];
     match call {
         1 => leverbonnet_reduce(job, a, first, second),
@@ -96,9 +94,9 @@ fn serve() -> bool {
     let mut job = io::large_buffer();
     let mut first = io::large_buffer();
     let mut second = io::buffer();
-    let length = within(job_length(&header), &job);
-    let one = within(word(header[8], header[9]) as usize, &first);
-    let two = within(word(header[10], header[11]) as usize, &second);
+    let length = within(numbers::u32_at(&header, 12) as usize, &job);
+    let one = within(numbers::u16_at(&header, 8) as usize, &first);
+    let two = within(numbers::u16_at(&header, 10) as usize, &second);
     exchange(
         &header,
         &mut job[..length],

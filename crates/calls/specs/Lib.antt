@@ -1,0 +1,2 @@
+-- What a request gets back.
+pub mod Requests
