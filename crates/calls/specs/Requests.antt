@@ -6,7 +6,8 @@ use lib.ListN.{length}
 use Rattle.fields.specs.Numbers.{byteAt, u16At}
 use Rattle.output.specs.Answers.{packed}
 use Rattle.layouts.specs.Outcomes.{roundOutcome, rectangleOutcome}
-use Rattle.leverbonnet.specs.Calls.{Reduces, countAnswer, numberAnswer, PrintsText, LaysOut}
+use Rattle.runs.specs.Outcomes.{countAnswer, numberAnswer}
+use Rattle.leverbonnet.specs.Calls.{Reduces, PrintsText, LaysOut}
 
 -- The call's number, the three numbers that it takes, the job, both outputs before and after, and the answer
 module _ (call a b c : ℕ) (job first second firstOut secondOut : List ℕ) (r : ℕ) where

@@ -37,7 +37,7 @@ use Rattle.printing.specs.Jobs.{jobText}
 use Rattle.printing.specs.Printing.{unprinted, printed, ifRoomy, unlessTrouble, printing, printingAnswer}
 use Rattle.printing.proofs.Lengths.{text-most}
 use Rattle.layouts.specs.Outcomes.{distanceSize, ifRoom, lentOutcome, layoutOutcome, roundOutcome, rectangleOutcome, layoutAnswer}
-use Rattle.leverbonnet.specs.Calls.{refused, reduced, handed, ofRun, ofTrouble, outcome, success, answerOf, countOf, countAnswer, numberAt, numberAnswer}
+use Rattle.runs.specs.Outcomes.{refused, reduced, handed, ofRun, ofTrouble, outcome, success, answerOf, countOf, countAnswer, numberAt, numberAnswer}
 use Rattle.demands.specs.Demands.{Given, toReduce, toRunCount, toRunNumber, toSheetText, toRoundLayout, toRectLayout}
 use Rattle.output.specs.declared.Answer.{Answer}
 use Rattle.output.specs.declared.Answer.the-variants.{Done, Refused}

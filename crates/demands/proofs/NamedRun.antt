@@ -12,7 +12,7 @@ use Rattle.reduction.specs.declared.Which.{Which}
 use Rattle.reduction.specs.declared.Which.the-variants.{Index, NoRun}
 use Rattle.reduction.specs.Reducing.{reducedRun, runNamed}
 use Rattle.reduction.proofs.Naming.{found-inside, named, none-named}
-use Rattle.leverbonnet.specs.Calls.{refused, handed, ofRun, ofTrouble, outcome}
+use Rattle.runs.specs.Outcomes.{refused, handed, ofRun, ofTrouble, outcome}
 use Rattle.demands.specs.Demands.{OnlyRun}
 
 module _ (s : List ℕ) (run : ℕ) (clear : jobTrouble s ≡ Clear) where

@@ -29,7 +29,7 @@ use Rattle.output.specs.Answers.{packed}
 use Rattle.output.specs.Bytes.{le, joined}
 use Rattle.output.specs.Splice.{spliced}
 use Rattle.writing.specs.Bytes.{entryBytes, sheetBytes, findingBytes, findingsBytes}
-use Rattle.leverbonnet.specs.Calls.{handed, outcome, success, answerOf, linesAfter, findingsAfter, countAnswer, numberAnswer}
+use Rattle.runs.specs.Outcomes.{handed, outcome, success, answerOf, linesAfter, findingsAfter, countAnswer, numberAnswer}
 use Rattle.lines.specs.Starred.{workedLines}
 use Rattle.demands.specs.Starred.{PrintedJob}
 

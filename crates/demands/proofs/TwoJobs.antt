@@ -13,7 +13,8 @@ use Rattle.job.specs.Places.{certificateCountOf, runOf}
 use Rattle.job.specs.Troubles.{jobTrouble}
 use Rattle.job.proofs.ClearJobs.{unique}
 use Rattle.reduction.specs.Reducing.{worked, reduction, reducedRun}
-use Rattle.leverbonnet.specs.Calls.{handed, outcome, Reduces}
+use Rattle.runs.specs.Outcomes.{handed, outcome}
+use Rattle.leverbonnet.specs.Calls.{Reduces}
 use Rattle.demands.specs.Demands.{SameRun}
 use Rattle.demands.proofs.NamedRun.{outcome-of-run}
 use Rattle.demands.proofs.SameOutcomes.{reduces-same}

@@ -22,7 +22,8 @@ use Rattle.output.specs.Splice.{spliced}
 use Rattle.writing.specs.Bytes.{lineSize, entryBytes, sheetSize, sheetBytes, findingSize, findingBytes, findingsBytes}
 use Rattle.printing.specs.Printing.{printing, printingAnswer}
 use Rattle.layouts.specs.Outcomes.{roundOutcome, rectangleOutcome, layoutAnswer}
-use Rattle.leverbonnet.specs.Calls.{outcome, success, answerOf, countAnswer, numberAnswer, Reduces}
+use Rattle.runs.specs.Outcomes.{outcome, success, answerOf, countAnswer, numberAnswer}
+use Rattle.leverbonnet.specs.Calls.{Reduces}
 use Rattle.demands.specs.ReadingOrder.{numberOf, GoodJob}
 use Rattle.demands.specs.Table.{CallRefused}
 use Rattle.demands.specs.Equations.{equation}

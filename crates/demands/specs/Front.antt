@@ -4,7 +4,8 @@ use mathlib.Core.Path.{_≡_}
 use mathlib.Core.List.{List}
 use mathlib.Core.Logic.{_↔_}
 use Rattle.printing.specs.Jobs.{jobText}
-use Rattle.leverbonnet.specs.Calls.{countAnswer, numberAnswer, Reduces, PrintsText}
+use Rattle.runs.specs.Outcomes.{countAnswer, numberAnswer}
+use Rattle.leverbonnet.specs.Calls.{Reduces, PrintsText}
 
 -- every call on a file promises the same of both, and so does what the program prints
 pub record Alike (s t : List ℕ) : Type 0 where

@@ -17,7 +17,7 @@ use Rattle.job.specs.Worked.{workedJob, workedRead}
 use Rattle.output.specs.Bytes.{le}
 use Rattle.writing.specs.Bytes.{sheetSize, findingSize}
 use Rattle.output.specs.Answers.{packed}
-use Rattle.leverbonnet.specs.Calls.{outcome, answerOf, linesAfter, findingsAfter}
+use Rattle.runs.specs.Outcomes.{outcome, answerOf, linesAfter, findingsAfter}
 
 -- a starred value: numbers worked out beside the paper's, a factor, a line 18, the positions of six points, or what a file is read as
 pub data StarredValue : Type 0 where

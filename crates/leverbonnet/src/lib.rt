@@ -1,13 +1,12 @@
 // The public calls. Each takes any bytes and any numbers, and its contract says what comes back and what every lent byte then is.
-// Relies on the reader, on a run's reduction, on what is printed, on the layouts and on the writes of `output`.
-
-mod calls;
+// Relies on the calls for runs, for the printed text and for layouts, and on `output`, which makes an answer one number.
 
 ghost use mathlib.Core.Path.{_≡_};
 ghost use Rattle.output.specs.Answers.{packed};
 ghost use lib.ListN.{length};
 ghost use Rattle.layouts.specs.Outcomes.{roundOutcome, rectangleOutcome};
-ghost use Rattle.leverbonnet.specs.Calls.{Reduces, countAnswer, numberAnswer, PrintsText, LaysOut};
+ghost use Rattle.runs.specs.Outcomes.{countAnswer, numberAnswer};
+ghost use Rattle.leverbonnet.specs.Calls.{Reduces, PrintsText, LaysOut};
 
 // Works the run of that number: 180 bytes of lines, 4 bytes a finding.
 #[no_mangle]
@@ -19,7 +18,7 @@ pub extern "C" fn leverbonnet_reduce(
 ) -> u64
     ensures { λ r. ⌜ Reduces (now (job .entry)) run (now (lines .entry)) (now (findings .entry)) (now (lines .exit)) (now (findings .exit)) r ⌝ }
 {
-    calls::reduce(job, run, lines, findings).packed()
+    runs::reduce(job, run, lines, findings).packed()
 }
 
 // How many runs a job holds.
@@ -27,7 +26,7 @@ pub extern "C" fn leverbonnet_reduce(
 pub extern "C" fn leverbonnet_run_count(job: &[u8]) -> u64
     ensures { λ r. ⌜ r ≡ packed (countAnswer (now (job .entry))) ⌝ }
 {
-    calls::run_count(job).packed()
+    runs::run_count(job).packed()
 }
 
 // The number of a job's run, by its index from 0 in file order.
@@ -35,7 +34,7 @@ pub extern "C" fn leverbonnet_run_count(job: &[u8]) -> u64
 pub extern "C" fn leverbonnet_run_number(job: &[u8], index: u16) -> u64
     ensures { λ r. ⌜ r ≡ packed (numberAnswer (now (job .entry)) index) ⌝ }
 {
-    calls::run_number(job, index).packed()
+    runs::run_number(job, index).packed()
 }
 
 // The characters that the program `sheet` prints for a job that is read.

@@ -19,7 +19,7 @@ use Rattle.output.specs.declared.Answer.{Answer}
 use Rattle.output.specs.declared.Answer.the-variants.{Done, Refused}
 use Rattle.output.specs.Splice.{spliced}
 use Rattle.writing.specs.Bytes.{sheetSize, sheetBytes, findingSize, findingsBytes}
-use Rattle.leverbonnet.specs.Calls.{Outcome, refused, handed, outcome, success, answerOf, linesAfter, findingsAfter, Came, countAnswer, numberAnswer}
+use Rattle.runs.specs.Outcomes.{Outcome, refused, handed, outcome, success, answerOf, linesAfter, findingsAfter, Came, countAnswer, numberAnswer}
 
 -- a refusal leaves both buffers as they were
 pub came-refused : {o : Outcome} (number place : ℕ) (lines findings : List ℕ) → o ≡ refused number place → Came o lines findings lines findings (Refused number place)

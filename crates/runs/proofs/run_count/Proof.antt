@@ -2,9 +2,9 @@
 use borrow.Author.Needs.{needs}
 use native.Mathlib.Omega.{arith}
 use Rattle.reduction.proofs.ClearJobs.{read-clear, few-runs, place-fits}
-use Rattle.leverbonnet.proofs.Outcomes.{count-refused, count-done}
-use Rattle.leverbonnet.proofs.calls.run_count.Statement.{statement}
-use Rattle.leverbonnet.proofs.calls.run_count.Tie as tie
+use Rattle.runs.proofs.Outcomes.{count-refused, count-done}
+use Rattle.runs.proofs.run_count.Statement.{statement}
+use Rattle.runs.proofs.run_count.Tie as tie
 
 read-requires : tie.Need-read-requires
 read-requires c κs = search needs

@@ -2,9 +2,9 @@
 use borrow.Author.Needs.{needs}
 use native.Mathlib.Omega.{arith}
 use Rattle.reduction.proofs.ClearJobs.{read-clear, few-runs, number-left, place-fits}
-use Rattle.leverbonnet.proofs.Outcomes.{number-refused, number-past, number-done}
-use Rattle.leverbonnet.proofs.calls.run_number.Statement.{statement}
-use Rattle.leverbonnet.proofs.calls.run_number.Tie as tie
+use Rattle.runs.proofs.Outcomes.{number-refused, number-past, number-done}
+use Rattle.runs.proofs.run_number.Statement.{statement}
+use Rattle.runs.proofs.run_number.Tie as tie
 
 read-requires : tie.Need-read-requires
 read-requires c κs = search needs

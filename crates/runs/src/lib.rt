@@ -1,4 +1,5 @@
-// The calls on a job, with their answers as enums.
+// The calls for a job's runs, with their answers as enums: one run worked and handed over, how many there are, and the number of each.
+// Relies on the reader, on a run's reduction and on the writers of lines and findings.
 
 use fields::numbers;
 use fields::trouble::Trouble;
@@ -13,7 +14,7 @@ use writing::put_sheet;
 ghost use mathlib.Core.Path.{_≡_};
 ghost use Prim.Native.Nat.{_≤_};
 ghost use Rattle.findings.specs.Listing.{mostFindings};
-ghost use Rattle.leverbonnet.specs.Calls.{success, Handed, Answers, countAnswer, numberAnswer};
+ghost use Rattle.runs.specs.Outcomes.{success, Handed, Answers, countAnswer, numberAnswer};
 
 // How many findings, and 65,536 more if the run is accepted.
 fn success(count: usize, accepted: bool) -> u32
@@ -60,6 +61,7 @@ pub fn reduce(job: &[u8], run: u16, lines: &mut [u8], findings: &mut [u8]) -> An
     hand_over(reduction::reduce(job, read, k), lines, findings)
 }
 
+// How many runs a job holds.
 pub fn run_count(job: &[u8]) -> Answer
     ensures { λ r. ⌜ r ≡ countAnswer (now (job .entry)) ⌝ }
 {
@@ -71,6 +73,7 @@ pub fn run_count(job: &[u8]) -> Answer
     Answer::Done(read.runs as u32)
 }
 
+// The number of a job's run, by its index from 0 in file order.
 pub fn run_number(job: &[u8], index: u16) -> Answer
     ensures { λ r. ⌜ r ≡ numberAnswer (now (job .entry)) index ⌝ }
 {

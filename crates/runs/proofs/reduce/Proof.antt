@@ -5,9 +5,9 @@ use mathlib.Core.Path.{_∙_, sym}
 use Rattle.reduction.specs.Reducing.{ClearRun}
 use Rattle.reduction.proofs.ClearJobs.{read-clear, count-of-runs, found-few, place-fits}
 use Rattle.reduction.proofs.Naming.{found-inside}
-use Rattle.leverbonnet.proofs.Outcomes.{came-refused, refused-by-reader, no-run, one-run, came-same}
-use Rattle.leverbonnet.proofs.calls.reduce.Statement.{statement}
-use Rattle.leverbonnet.proofs.calls.reduce.Tie as tie
+use Rattle.runs.proofs.Outcomes.{came-refused, refused-by-reader, no-run, one-run, came-same}
+use Rattle.runs.proofs.reduce.Statement.{statement}
+use Rattle.runs.proofs.reduce.Tie as tie
 
 read-requires : tie.Need-read-requires
 read-requires c κs = search needs

@@ -1,0 +1,2 @@
+-- What comes of the calls for a job's runs.
+pub mod Outcomes
