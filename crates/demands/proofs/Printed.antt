@@ -14,9 +14,10 @@ use Rattle.stack.specs.Stack.{dryWeight, wetWeight, stackPressure, stackTempera
 use Rattle.certs.specs.Choosing.{eligible, keep, chosen, chosenFor}
 use Rattle.certs.specs.Comparing.{holds, apart}
 use Rattle.certs.specs.Factor.{factorMoved, factor, factorOf, coefficientOf, diametersOf}
-use Rattle.rules.specs.Grounds.{broken}
+use Rattle.conditions.specs.Grounds.{broken}
 use Rattle.findings.specs.Listing.{partOf, ofKind, besideOf, brokenAt, findingAt, ruleFindings, findingsTo, findings, accepted, listed, linesFor, findingsFor}
-use Rattle.rules.specs.Rules.{missing, moved, uneven, diameter, halfDiameter, undisturbed, minimumPoints, nextAllowed, short, leaking, lineAgainst, unsteady, grounds, groundOf, placesOf, placeAt, classOf}
+use Rattle.conditions.specs.Conditions.{missing, moved, uneven, diameter, halfDiameter, undisturbed, minimumPoints, nextAllowed, short, leaking, lineAgainst, unsteady}
+use Rattle.rules.specs.Rules.{grounds, groundOf, placesOf, placeAt, classOf}
 use Rattle.fields.specs.Numbers.{u16At, u32At, i16At}
 use Rattle.fields.specs.Trouble.{first, checks, recordTrouble, upTo}
 use Rattle.arrays.specs.Arrays.{padded, filledTo}

@@ -16,8 +16,9 @@ use Rattle.certs.specs.declared.Chosen.{Chosen}
 use Rattle.certs.specs.declared.comparison.Way.the-variants.{Same}
 use Rattle.certs.specs.Comparing.{holds}
 use Rattle.certs.specs.Factor.{factorOf}
-use Rattle.rules.specs.Grounds.{broken}
-use Rattle.rules.specs.Rules.{lineAgainst, grounds, groundOf}
+use Rattle.conditions.specs.Grounds.{broken}
+use Rattle.conditions.specs.Conditions.{lineAgainst}
+use Rattle.rules.specs.Rules.{grounds, groundOf}
 use Rattle.findings.specs.Listing.{besideOf, brokenAt, linesFor}
 
 -- line 6 is there only where Y is known and line 3 is not 0

@@ -24,8 +24,9 @@ use Rattle.certs.specs.declared.Chosen.{Chosen}
 use Rattle.certs.specs.declared.comparison.Way.the-variants.{Below, Above, Same}
 use Rattle.certs.specs.Comparing.{holds}
 use Rattle.rules.specs.declared.Beside.{Beside}
-use Rattle.rules.specs.Grounds.{broken}
-use Rattle.rules.specs.Rules.{missing, moved, uneven, lineAgainst, leastIsokinetic, greatestIsokinetic, lacking, ruleCount, grounds, groundOf, placesOf}
+use Rattle.conditions.specs.Grounds.{broken}
+use Rattle.conditions.specs.Conditions.{missing, moved, uneven, lineAgainst, leastIsokinetic, greatestIsokinetic, lacking}
+use Rattle.rules.specs.Rules.{ruleCount, grounds, groundOf, placesOf}
 use Rattle.findings.specs.Listing.{partOf, oneOfKind, ofKind, besideOf, brokenAt, findingAt, ruleFindings, findingsTo, findings, linesFor, findingsFor, mostFindings, Worked}
 use Rattle.findings.proofs.Filling.{rising}
 use Rattle.findings.proofs.Absent.{no-volume, no-moisture, no-gas, no-velocity, no-flow}

@@ -5,7 +5,7 @@ use borrow.Author.Tests.{ne-eqb}
 use Rattle.records.specs.declared.Counts.{Counts}
 use Rattle.records.specs.declared.Run.{Run}
 use Rattle.records.specs.Records.{pointOf, segmentOf, weighingOf}
-use Rattle.rules.specs.declared.Part.the-variants.{Whole, OnePoint, OneSegment, OneWeighing}
+use Rattle.conditions.specs.declared.Part.the-variants.{Whole, OnePoint, OneSegment, OneWeighing}
 use Rattle.rules.specs.Rules.{placesOf}
 use Rattle.findings.specs.Listing.{partOf}
 

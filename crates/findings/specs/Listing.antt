@@ -16,11 +16,12 @@ use Rattle.lines.specs.declared.Lines.{Lines}
 use Rattle.lines.specs.Sheet.{lines}
 use Rattle.certs.specs.declared.Chosen.{Chosen}
 use Rattle.certs.specs.Factor.{factorOf, coefficientOf, diametersOf}
-use Rattle.rules.specs.declared.Part.{Part}
-use Rattle.rules.specs.declared.Part.the-variants.{Whole, OnePoint, OneSegment, OneWeighing}
+use Rattle.conditions.specs.declared.Part.{Part}
+use Rattle.conditions.specs.declared.Part.the-variants.{Whole, OnePoint, OneSegment, OneWeighing}
 use Rattle.rules.specs.declared.Beside.{Beside}
-use Rattle.rules.specs.Grounds.{broken}
-use Rattle.rules.specs.Rules.{minimumPoints, ruleCount, groundOf, placesOf, placeAt, fault, classOf}
+use Rattle.conditions.specs.Grounds.{broken}
+use Rattle.conditions.specs.Conditions.{minimumPoints}
+use Rattle.rules.specs.Rules.{ruleCount, groundOf, placesOf, placeAt, fault, classOf}
 use Rattle.findings.specs.declared.Finding.{Finding}
 use Rattle.findings.specs.declared.Findings.{Findings}
 

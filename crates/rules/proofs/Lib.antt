@@ -1,6 +1,3 @@
--- The laws of the rules, which the layers above cite.
-pub mod Products
-pub mod Parts
+-- The laws of the table, which the layers above cite.
 pub mod Table
 pub mod Starred
-pub mod Words

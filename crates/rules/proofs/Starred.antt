@@ -4,8 +4,9 @@ use mathlib.Core.List.{List, [], _∷_, _++_, map}
 use lib.Dec.{ltb}
 use Rattle.certs.specs.Comparing.{holds, apart}
 use Rattle.certs.specs.Factor.{factorMoved, factor, factorOf}
-use Rattle.rules.specs.Grounds.{broken}
-use Rattle.rules.specs.Rules.{moved, lineAgainst, grounds, groundOf, leastIsokinetic, greatestIsokinetic}
+use Rattle.conditions.specs.Grounds.{broken}
+use Rattle.conditions.specs.Conditions.{moved, lineAgainst, leastIsokinetic, greatestIsokinetic}
+use Rattle.rules.specs.Rules.{grounds, groundOf}
 use Rattle.rules.specs.Starred.{Each, StarredFactor, starredFactors, FactorStands, StarredIsokinetic, starredIsokinetic, IsokineticStands}
 
 -- a starred factor stands where the two factors alone give the note and Y

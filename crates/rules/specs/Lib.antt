@@ -1,4 +1,3 @@
--- The twenty rules and what breaks them.
-pub mod Grounds
+-- The twenty rules.
 pub mod Rules
 pub mod Starred

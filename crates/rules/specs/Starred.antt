@@ -7,9 +7,9 @@ use Rattle.records.specs.declared.Certificate.{Certificate}
 use Rattle.values.specs.declared.Value.the-variants.{Known}
 use Rattle.certs.specs.declared.Lookup.the-variants.{Found}
 use Rattle.certs.specs.Factor.{factorOf}
-use Rattle.rules.specs.declared.Part.{Part}
+use Rattle.conditions.specs.declared.Part.{Part}
 use Rattle.rules.specs.declared.Beside.{Beside}
-use Rattle.rules.specs.Grounds.{broken}
+use Rattle.conditions.specs.Grounds.{broken}
 use Rattle.rules.specs.Rules.{groundOf}
 
 -- what holds of each in a list

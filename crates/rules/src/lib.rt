@@ -1,36 +1,27 @@
 // The twenty rules: what each goes by, from the part that it looks at and from what it may see beside it.
 // Relies on the chosen certificates and on what each line is promised to be. No rule takes a run or an array.
 
-pub mod certificates;
-pub mod field;
-pub mod grounds;
-pub mod sheet;
-pub mod site;
-pub mod weighings;
-
-use certificates::missing;
-use certificates::moved;
-use certificates::uneven;
 use certs::Chosen;
 use certs::comparison::Way;
-use field::leaking;
-use field::short;
-use grounds::Ground;
+use conditions::Part;
+use conditions::certificates::missing;
+use conditions::certificates::moved;
+use conditions::certificates::uneven;
+use conditions::field::leaking;
+use conditions::field::short;
+use conditions::grounds::Ground;
+use conditions::sheet::Isokinetic;
+use conditions::sheet::line_against;
+use conditions::site::disturbed;
+use conditions::site::narrow;
+use conditions::site::wrong_points;
+use conditions::weighings::lacking;
+use conditions::weighings::negative;
+use conditions::weighings::unsteady;
 use lines::Lines;
 use records::Counts;
-use records::Point;
-use records::Segment;
 use records::Site;
-use records::Weighing;
-use sheet::Isokinetic;
-use sheet::line_against;
-use site::disturbed;
-use site::narrow;
-use site::wrong_points;
 use values::Value;
-use weighings::lacking;
-use weighings::negative;
-use weighings::unsteady;
 ghost use mathlib.Core.Path.{_≡_};
 ghost use Rattle.rules.specs.Rules.{groundOf, placesOf, placeAt, classOf, Judgeable};
 
@@ -41,14 +32,6 @@ pub const RULES: u8 = 20;
 pub const FAULT: u8 = 1;
 
 pub const NOTE: u8 = 2;
-
-// What a rule looks at: one of the run's points, segments or weighings, or the run as a whole.
-pub enum Part {
-    Whole,
-    OnePoint(Point),
-    OneSegment(Segment),
-    OneWeighing(Weighing),
-}
 
 // What a rule may see beside its part: the chosen certificates, the lines, the site, the counts, how many filters and
 // rinses there are, and the least number of points, the number and not how it came about.

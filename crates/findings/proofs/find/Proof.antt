@@ -13,7 +13,7 @@ use Rattle.records.specs.declared.Segment.{Segment}
 use Rattle.records.specs.declared.Weighing.{Weighing}
 use Rattle.records.specs.declared.RunHeader.{RunHeader}
 use Rattle.rules.specs.declared.Beside.{Beside}
-use Rattle.rules.specs.Grounds.{broken}
+use Rattle.conditions.specs.Grounds.{broken}
 use Rattle.rules.specs.Rules.{ruleCount, groundOf, placesOf}
 use Rattle.findings.specs.Listing.{partOf, brokenAt, findings, findingsTo, ruleFindings, mostFindings}
 use Rattle.arrays.proofs.Filled.{filled-none}

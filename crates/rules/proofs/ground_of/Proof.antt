@@ -5,7 +5,8 @@ use mir.Facts.{toZ-ofZ}
 use mir.Syntax.{w64}
 use mir.Val.{SFits}
 use borrow.Author.Needs.{needs}
-use Rattle.rules.specs.Rules.{negative, grounds, groundOf}
+use Rattle.conditions.specs.Conditions.{negative}
+use Rattle.rules.specs.Rules.{grounds, groundOf}
 use Rattle.rules.proofs.Table.{past-all}
 use Rattle.rules.proofs.ground_of.Statement.{statement}
 use Rattle.rules.proofs.ground_of.Tie as tie

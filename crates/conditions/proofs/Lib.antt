@@ -1,0 +1,4 @@
+-- The laws of the conditions, which the layers above cite.
+pub mod Products
+pub mod Parts
+pub mod Words

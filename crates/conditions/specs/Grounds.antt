@@ -1,0 +1,14 @@
+-- What a rule goes by, and when that breaks it.
+use mathlib.Core.Bool.{Bool, true, false, _||_}
+use lib.Signed.{ltZ}
+use Rattle.certs.specs.Comparing.{holds}
+use Rattle.conditions.specs.declared.grounds.Ground.{Ground}
+use Rattle.conditions.specs.declared.grounds.Ground.the-variants.{Silent, NoCertificate, Compared, Either, SignedBelow}
+
+-- a comparison breaks a rule exactly when it holds; of two, either is enough
+unfoldable pub broken : Ground → Bool
+broken Silent = false
+broken NoCertificate = true
+broken (Compared c) = holds c
+broken (Either a b) = holds a || holds b
+broken (SignedBelow left right) = ltZ left right

@@ -1,0 +1,37 @@
+// What a rule goes by at one place, and whether that breaks it. A rule that compares numbers is its comparison.
+
+use certs::comparison::Comparison;
+ghost use mathlib.Core.Path.{_≡_};
+ghost use Rattle.conditions.specs.Grounds.{broken};
+
+pub enum Ground {
+    // What the rule speaks of is not there.
+    Silent,
+    // The job holds no certificate so dated.
+    NoCertificate,
+    // Two numbers, one set against the other.
+    Compared(Comparison),
+    // Two conditions: either breaks the rule, and both break it once.
+    Either(Comparison, Comparison),
+    // A signed line that must not be below its limit.
+    SignedBelow(i64, i64),
+}
+
+impl Ground {
+    pub fn broken(self) -> bool
+        ensures { λ r. ⌜ r ≡ broken self ⌝ }
+    {
+        match self {
+            Ground::Silent => false,
+            Ground::NoCertificate => true,
+            Ground::Compared(c) => c.holds(),
+            Ground::Either(a, b) => {
+                if a.holds() {
+                    return true;
+                }
+                b.holds()
+            }
+            Ground::SignedBelow(left, right) => left < right,
+        }
+    }
+}

@@ -1,0 +1,31 @@
+// Rules 12 to 16: lines 3, 6, 15 and 18, each against its limit.
+
+use crate::grounds::Ground;
+use certs::comparison::Comparison;
+use certs::comparison::Way;
+use values::Value;
+ghost use mathlib.Core.Path.{_≡_};
+ghost use Rattle.conditions.specs.Conditions.{lineAgainst};
+
+// The least and the greatest percent isokinetic, 0.01 percent.
+pub struct Isokinetic;
+
+impl Isokinetic {
+    pub const LEAST: u64 = 9_000;
+
+    pub const GREATEST: u64 = 11_000;
+}
+
+// A line against its limit, where the line is present.
+pub fn line_against(line: Value, way: Way, limit: u64) -> Ground
+    ensures { λ r. ⌜ r ≡ lineAgainst line way limit ⌝ }
+{
+    let Value::Known(n) = line else {
+        return Ground::Silent;
+    };
+    Ground::Compared(Comparison {
+        left: n,
+        way: way,
+        right: limit,
+    })
+}
