@@ -22,7 +22,7 @@ enum-told : tie.Need-enum-told
 enum-told c = search needs
 
 returns-2 : tie.Need-returns-2
-returns-2 c = number-past _ _ _ (read-clear _ (c .before .before .before .before .read .ensures) (c .before .before .enum-told .given .1)) (c .if1 .taken)
+returns-2 c = number-past _ _ _ (read-clear _ (c .before .before .before .before .read .ensures) (c .before .before .enum-told .given .1)) (omega (arith, c .if1 .taken))
 
 mul-tail : tie.Need-mul-tail
 mul-tail c = search needs

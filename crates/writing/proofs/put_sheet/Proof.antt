@@ -25,7 +25,7 @@ mul-put-entry-2 : tie.Need-mul-put-entry-2 Inv-loop μ-loop
 mul-put-entry-2 c = omega (arith, c .before .loop-test .taken)
 
 array-copy-out-put-entry : tie.Need-array-copy-out-put-entry Inv-loop μ-loop
-array-copy-out-put-entry c = c .before .loop-test .taken
+array-copy-out-put-entry c = omega (arith, c .before .loop-test .taken)
 
 put-entry-requires : tie.Need-put-entry-requires Inv-loop μ-loop
 put-entry-requires c κs =
