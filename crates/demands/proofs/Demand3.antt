@@ -1,8 +1,10 @@
 -- Demand 3. The findings that a successful call wrote are the rules that the run breaks, in order and each once; it answered their number, and
 -- accepted exactly if none is a fault.
-use Prim.Native.Nat.{ℕ, _*_, _<_}
-use mathlib.Core.Path.{_≡_, _∙_, ap, sym}
+use Prim.Native.Nat.{ℕ, _≤_, _<_}
+use mathlib.Core.Path.{_≡_, refl, sym, _∙_, ap}
+use mathlib.Core.Bool.{Bool, true, false}
 use mathlib.Core.List.{List}
+use native.Mathlib.Omega.{arith}
 use lib.ListN.{length, getD}
 use lib.Seq.{getD-take}
 use Rattle.arrays.proofs.Filled.{filled-front}
@@ -19,6 +21,7 @@ use Rattle.output.specs.Answers.{packed}
 use Rattle.output.proofs.Records.{record-at}
 use Rattle.writing.specs.Bytes.{findingSize, findingBytes, findingsBytes}
 use Rattle.writing.proofs.Sizes.{finding-length}
+use Rattle.runs.specs.Outcomes.{success}
 use Rattle.demands.specs.Demands.{Call, Promised, Succeeds, bytesOfFinding, FindingsOf, Demand3}
 use Rattle.demands.proofs.GoodParts.{good-job}
 use Rattle.demands.proofs.Succeeding.{Done, done}
@@ -38,9 +41,18 @@ unfolding listed
 held-at fs i inside =
     sym (getD-take (length fs) (listed fs .list) i noFinding inside) ∙ ap (λ gs. getD gs i noFinding) (filled-front mostFindings noFinding fs)
 
+-- a count and a verdict can be told from an answer
+told-apart : {count other : ℕ} (verdict stands : Bool) → count ≤ mostFindings → other ≤ mostFindings → success other stands ≡ success count verdict → (count ≡ other) × (verdict ≡ stands)
+unfolding success
+told-apart true true few small e = (omega arith, refl)
+told-apart false false few small e = (sym e, refl)
+told-apart true false few small e = absurd (omega arith)
+told-apart false true few small e = absurd (omega arith)
+
+-- The findings written are the rules broken; the answer is their number and the verdict
 pub findings-by-rules : (c : Call) → Promised c → Succeeds c → Demand3 c
 unfolding reducedRun reduction chosenIn worked findingsBytes listed packed
-findings-by-rules c kept success =
+findings-by-rules c kept succeeds =
     record {
       index = k;
       run = d .reducing .run;
@@ -48,19 +60,23 @@ findings-by-rules c kept success =
       findings = findings-of (c .job) k;
       accepted = accepted list;
       answer = d .reducing .answer;
-      few = at-most-for (runOf (c .job) k) (chosenIn (c .job) k) (clear-run (c .job) (good-job (c .job) (d .reducing .good)) k (d .reducing .run .inside));
+      few = few;
+      alone = λ count verdict small e. told-apart verdict (accepted list) small few (sym (d .reducing .answer) ∙ e);
       stands = accepted-exactly list;
       bytes = written;
     }
   where
     d : Done c
-    d = done c kept success
+    d = done c kept succeeds
 
     k : ℕ
     k = d .index
 
     list : List Finding
     list = findingsFor (runOf (c .job) k) (chosenIn (c .job) k)
+
+    few : length list ≤ mostFindings
+    few = at-most-for (runOf (c .job) k) (chosenIn (c .job) k) (clear-run (c .job) (good-job (c .job) (d .reducing .good)) k (d .reducing .run .inside))
 
     written : (i : ℕ) → i < length list → bytesOfFinding (c .findingsOut) i ≡ findingBytes (getD list i noFinding)
     written i inside =

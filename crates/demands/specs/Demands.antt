@@ -78,7 +78,7 @@ pub data CameTo (c : Call) : Type 0 where
   byRow : (number place : ℕ) → RowApplies c number place → RefusedWith c number place → CameTo c
   toRun : (k : ℕ) → ReducesRun c k → CameTo c
 
--- what the calls can answer, each with whatever it is given
+-- the answers that the six calls can give, whatever they are given
 pub data Given : Answer → Type 0 where
   toReduce : (s : List ℕ) (run lines findings : ℕ) → Given (answerOf (outcome s run lines findings))
   toRunCount : (s : List ℕ) → Given (countAnswer s)
@@ -126,11 +126,12 @@ pub record Demand3 (c : Call) : Type 0 where
   pub run : OnlyRun (c .job) (c .run) index
   pub list : List Finding
   pub findings : FindingsOf (c .job) index list
-  -- the answer's count is their number, and 65,536 more
+  -- the answer is their number, and 65,536 more if the run is accepted; no other count and verdict are that answer
   pub accepted : Bool
   pub answer : c .answer ≡ success (length list) accepted
   pub few : length list ≤ mostFindings
-  -- exactly if none of them is a fault
+  pub alone : (count : ℕ) (verdict : Bool) → count ≤ mostFindings → c .answer ≡ success count verdict → (count ≡ length list) × (verdict ≡ accepted)
+  -- it is accepted exactly if none of them is a fault
   pub stands : (accepted ≡ true) ↔ ((i : ℕ) → i < length list → getD list i noFinding .class ≡ fault → ⊥)
   -- the bytes of the i-th are the i-th of the list
   pub bytes : (i : ℕ) → i < length list → bytesOfFinding (c .findingsOut) i ≡ findingBytes (getD list i noFinding)
