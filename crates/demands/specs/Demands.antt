@@ -106,7 +106,11 @@ pub record Demand2 (c : Call) : Type 0 where
   -- exactly one run of the job has the asked number
   pub run : OnlyRun (c .job) (c .run) index
   -- the bytes of line i are its i-th equation's value, or say that it is absent
-  pub lines : (i : ℕ) → 1 ≤ i → i ≤ lineCount → bytesOfLine (c .linesOut) i ≡ entryBytes (equation i (runOf (c .job) index) (chosenIn (c .job) index))
+  pub lines :
+      (i : ℕ)
+      → 1 ≤ i
+      → i ≤ lineCount
+      → bytesOfLine (c .linesOut) i ≡ entryBytes (equation i (runOf (c .job) index) (chosenIn (c .job) index))
 
 -- Demand 3: of a call that succeeds, the findings are the rules that the run breaks
 
@@ -117,8 +121,16 @@ bytesOfFinding bytes i = take findingSize (drop (findingSize * i) bytes)
 -- a list holds the findings of a run: in order, each once, exactly those rules that it breaks, and each with its class
 pub record FindingsOf (s : List ℕ) (k : ℕ) (list : List Finding) : Type 0 where
   pub sorted : (i j : ℕ) → i < j → j < length list → Precedes (getD list i noFinding) (getD list j noFinding)
-  pub once : (i j : ℕ) → i < length list → j < length list → getD list i noFinding .rule ≡ getD list j noFinding .rule → getD list i noFinding .place ≡ getD list j noFinding .place → i ≡ j
-  pub exactly : (rule place : ℕ) → HasFinding list rule place ↔ Breaks (runOf s k) (chosenIn s k) (linesFor (runOf s k) (chosenIn s k)) rule place
+  pub once :
+      (i j : ℕ)
+      → i < length list
+      → j < length list
+      → getD list i noFinding .rule ≡ getD list j noFinding .rule
+      → getD list i noFinding .place ≡ getD list j noFinding .place
+      → i ≡ j
+  pub exactly :
+      (rule place : ℕ)
+      → HasFinding list rule place ↔ Breaks (runOf s k) (chosenIn s k) (linesFor (runOf s k) (chosenIn s k)) rule place
   pub class : (i : ℕ) → i < length list → getD list i noFinding .class ≡ classOf (getD list i noFinding .rule)
 
 pub record Demand3 (c : Call) : Type 0 where
@@ -130,13 +142,18 @@ pub record Demand3 (c : Call) : Type 0 where
   pub accepted : Bool
   pub answer : c .answer ≡ success (length list) accepted
   pub few : length list ≤ mostFindings
-  pub alone : (count : ℕ) (verdict : Bool) → count ≤ mostFindings → c .answer ≡ success count verdict → (count ≡ length list) × (verdict ≡ accepted)
+  pub alone :
+      (count : ℕ) (verdict : Bool)
+      → count ≤ mostFindings
+      → c .answer ≡ success count verdict
+      → (count ≡ length list) × (verdict ≡ accepted)
   -- it is accepted exactly if none of them is a fault
   pub stands : (accepted ≡ true) ↔ ((i : ℕ) → i < length list → getD list i noFinding .class ≡ fault → ⊥)
   -- the bytes of the i-th are the i-th of the list
   pub bytes : (i : ℕ) → i < length list → bytesOfFinding (c .findingsOut) i ≡ findingBytes (getD list i noFinding)
 
--- Beside it: two jobs that are both read hold the same record for a run of that number, and the same certificates for the meter, pitot tube and nozzle which it names
+-- Beside it: two jobs that are both read hold the same record for a run of that number, and the same certificates for the
+-- meter, pitot tube and nozzle which it names
 pub record SameRun (s t : List ℕ) (run : ℕ) : Type 0 where
   pub first : jobTrouble s ≡ Clear
   pub second : jobTrouble t ≡ Clear

@@ -7,9 +7,11 @@ use Rattle.printing.specs.Jobs.{jobText}
 use Rattle.runs.specs.Outcomes.{countAnswer, numberAnswer}
 use Rattle.leverbonnet.specs.Calls.{Reduces, PrintsText}
 
--- every call on a file promises the same of both, and so does what the program prints
+-- every call on a file promises the same of both, and the same is printed of both
 pub record Alike (s t : List ℕ) : Type 0 where
-  pub reduce : (run : ℕ) {linesIn findingsIn linesOut findingsOut : List ℕ} {r : ℕ} → Reduces s run linesIn findingsIn linesOut findingsOut r ↔ Reduces t run linesIn findingsIn linesOut findingsOut r
+  pub reduce :
+      (run : ℕ) {linesIn findingsIn linesOut findingsOut : List ℕ} {r : ℕ}
+      → Reduces s run linesIn findingsIn linesOut findingsOut r ↔ Reduces t run linesIn findingsIn linesOut findingsOut r
   pub runCount : countAnswer s ≡ countAnswer t
   pub runNumber : (index : ℕ) → numberAnswer s index ≡ numberAnswer t index
   pub sheetText : {old new : List ℕ} {r : ℕ} → PrintsText s old new r ↔ PrintsText t old new r

@@ -23,8 +23,19 @@ pub data FirstBad (number place : ℕ) : List Row → Type 0 where
 
 -- the record that starts at a place is a certificate that repeats an earlier one, or a run whose number is not above the one before
 pub data NotNew (s : List ℕ) : ℕ → Type 0 where
-  certificateAgain : (j k : ℕ) → ReachedCertificate s k → Good s (oneCertificate k) → j < k → Repeats (certificateOf s j) (certificateOf s k) → NotNew s (certificatePlace k)
-  numberNotAbove : (k : ℕ) → ReachedRun s (suc k) → Good s (runHeader (suc k)) → numberOf s (suc k) ≤ numberOf s k → NotNew s (runStart s (suc k))
+  certificateAgain :
+      (j k : ℕ)
+      → ReachedCertificate s k
+      → Good s (oneCertificate k)
+      → j < k
+      → Repeats (certificateOf s j) (certificateOf s k)
+      → NotNew s (certificatePlace k)
+  numberNotAbove :
+      (k : ℕ)
+      → ReachedRun s (suc k)
+      → Good s (runHeader (suc k))
+      → numberOf s (suc k) ≤ numberOf s k
+      → NotNew s (runStart s (suc k))
 
 -- A row applies to a file
 pub data FileRefused (s : List ℕ) : ℕ → ℕ → Type 0 where
@@ -38,17 +49,28 @@ pub data FileRefused (s : List ℕ) : ℕ → ℕ → Type 0 where
   row4 : (r : Fixed) → Reached s r → Complete s r → {place : ℕ} → FirstBad 4 place (rowsOf s r) → FileRefused s 4 (startOf s r + place)
   -- 5: another field out of range; that field's first byte
   row5 : (r : Fixed) → Reached s r → Complete s r → {place : ℕ} → FirstBad 5 place (rowsOf s r) → FileRefused s 5 (startOf s r + place)
-  -- 6: a certificate repeats kind, maker, serial and day of an earlier one, or a run number is not above the one before; record start
+  -- 6: a certificate repeats kind, maker, serial and day of an earlier one, or a run number is not above the one before;
+  -- record start
   row6 : {place : ℕ} → NotNew s place → FileRefused s 6 place
   -- 7: point seconds total over 36,000, or segment seconds total differs from it; run start
-  row7 : (k : ℕ) → ReachedSeconds s k → (greatestTotalSeconds < totalOfPoints s k) ⊎ (totalOfSegments s k ≡ totalOfPoints s k → ⊥) → FileRefused s 7 (runStart s k)
+  row7 :
+      (k : ℕ)
+      → ReachedSeconds s k
+      → (greatestTotalSeconds < totalOfPoints s k) ⊎ (totalOfSegments s k ≡ totalOfPoints s k → ⊥)
+      → FileRefused s 7 (runStart s k)
   -- 8: bytes are left over; first of them
   row8 : ReachedEnd s → runStart s (runCountOf s) < length s → FileRefused s 8 (runStart s (runCountOf s))
 
--- A row applies to a call to reduce: one of the file's, and then, of a good job
+-- A row applies to a call to reduce: one of the file's, or behind them, where the job is good, 10 and then 9
 pub data CallRefused (s : List ℕ) (run lines findings : ℕ) : ℕ → ℕ → Type 0 where
   ofFile : {number place : ℕ} → FileRefused s number place → CallRefused s run lines findings number place
   -- 10: no run of that number; 0
   row10 : GoodJob s → ((k : ℕ) → k < runCountOf s → numberOf s k ≡ run → ⊥) → CallRefused s run lines findings 10 0
   -- 9: a lent output is too short; 0
-  row9 : GoodJob s → (k : ℕ) → k < runCountOf s → numberOf s k ≡ run → (lines < sheetSize) ⊎ (findings < findingSize * reducedRun s k .findings .count) → CallRefused s run lines findings 9 0
+  row9 :
+      GoodJob s
+      → (k : ℕ)
+      → k < runCountOf s
+      → numberOf s k ≡ run
+      → (lines < sheetSize) ⊎ (findings < findingSize * reducedRun s k .findings .count)
+      → CallRefused s run lines findings 9 0
