@@ -55,11 +55,10 @@ sizeOf (oneWeighing k i) = weighingSize
 abbrev pub rowsOf : List ℕ → Fixed → List Row
 rowsOf s fileHeader = fileRows s
 rowsOf s (oneCertificate k) = certificateRows (certificateOf s k)
-rowsOf s (runHeader k) = headerRows (headerAt s (runStart s k)) (byteAt (drop (runStart s k) s) 63)
-rowsOf s (onePoint k i) = pointRows (pointAt s (pointPlace (runStart s k) i))
-rowsOf s (oneSegment k i) = segmentRows (segmentAt s (segmentPlace (runStart s k) (countsOf s k) i))
-rowsOf s (oneWeighing k i) =
-    weighingRows (weighingAt s (weighingPlace (runStart s k) (countsOf s k) i)) (byteAt (drop (weighingPlace (runStart s k) (countsOf s k) i) s) 1)
+rowsOf s (runHeader k) = let at : ℕ = startOf s (runHeader k) in headerRows (headerAt s at) (byteAt (drop at s) 63)
+rowsOf s (onePoint k i) = pointRows (pointAt s (startOf s (onePoint k i)))
+rowsOf s (oneSegment k i) = segmentRows (segmentAt s (startOf s (oneSegment k i)))
+rowsOf s (oneWeighing k i) = let at : ℕ = startOf s (oneWeighing k i) in weighingRows (weighingAt s at) (byteAt (drop at s) 1)
 
 -- it ends within the file
 abbrev pub Complete : List ℕ → Fixed → Type 0
