@@ -1,5 +1,5 @@
-// The twenty rules: what each goes by, from the part that it looks at and from what it may see beside it.
-// Relies on the chosen certificates and on what each line is promised to be. No rule takes a run or an array.
+// The table of the twenty rules: what each goes by, from the part that it looks at and from what it may see beside it; of what
+// places it speaks, and its class. Relies on the conditions.
 
 use certs::Chosen;
 use certs::comparison::Way;
