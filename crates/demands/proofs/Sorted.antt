@@ -16,7 +16,8 @@ use Rattle.lines.specs.declared.Lines.{Lines}
 use Rattle.certs.specs.declared.Chosen.{Chosen}
 use Rattle.findings.specs.declared.Finding.{Finding}
 use Rattle.rules.specs.Rules.{ruleCount, placesOf, placeAt, classOf}
-use Rattle.findings.specs.Listing.{brokenAt, findingAt, ruleFindings, findingsTo, findings, noFinding, Precedes}
+use Rattle.findings.specs.Listing.{brokenAt, findingAt, ruleFindings, findingsTo, findings, noFinding}
+use Rattle.demands.specs.Demands.{Precedes}
 use Rattle.findings.proofs.Members.{at-index, OfRule, OfRules, rule-members, all-members}
 
 -- every finding stands before all that follow it

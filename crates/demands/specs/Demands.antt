@@ -3,13 +3,13 @@ use Prim.Native.Nat.{ℕ, _-_, _*_, _^_, _≤_, _<_}
 use mathlib.Core.Path.{_≡_}
 use mathlib.Core.Bool.{Bool, true}
 use mathlib.Core.List.{List}
-use mathlib.Core.Logic.{_↔_}
+use mathlib.Core.Logic.{_⊎_, _↔_}
 use lib.ListN.{length, take, drop, getD}
 use Rattle.fields.specs.declared.trouble.Trouble.the-variants.{Clear}
 use Rattle.certs.specs.Choosing.{SameForRun}
 use Rattle.rules.specs.Rules.{fault, classOf}
 use Rattle.findings.specs.declared.Finding.{Finding}
-use Rattle.findings.specs.Listing.{mostFindings, noFinding, linesFor, Breaks, HasFinding, Precedes}
+use Rattle.findings.specs.Listing.{mostFindings, noFinding, linesFor, Breaks, HasFinding}
 use Rattle.heads.specs.Values.{certificateOf}
 use Rattle.job.specs.Places.{certificateCountOf, runCountOf, runOf}
 use Rattle.job.specs.Troubles.{jobTrouble}
@@ -117,6 +117,10 @@ pub record Demand2 (c : Call) : Type 0 where
 -- the bytes of the finding at an index, counted from 0
 abbrev pub bytesOfFinding : List ℕ → ℕ → List ℕ
 bytesOfFinding bytes i = take findingSize (drop (findingSize * i) bytes)
+
+-- one finding stands before another: by rule, and then by place
+abbrev pub Precedes : Finding → Finding → Type 0
+Precedes a b = (a .rule < b .rule) ⊎ ((a .rule ≡ b .rule) × (a .place < b .place))
 
 -- a list holds the findings of a run: in order, each once, exactly those rules that it breaks, and each with its class
 pub record FindingsOf (s : List ℕ) (k : ℕ) (list : List Finding) : Type 0 where

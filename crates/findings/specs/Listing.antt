@@ -120,7 +120,3 @@ pub record HasFinding (fs : List Finding) (rule place : ℕ) : Type 0 where
   pub index : ℕ
   pub inside : index < length fs
   pub same : (getD fs index noFinding .rule ≡ rule) × (getD fs index noFinding .place ≡ place)
-
--- one finding stands before another: by rule, and then by place
-abbrev pub Precedes : Finding → Finding → Type 0
-Precedes a b = (a .rule < b .rule) ⊎ ((a .rule ≡ b .rule) × (a .place < b .place))
