@@ -8,11 +8,11 @@ use borrow.Author.Tests.{leb-false, le-leb, lt-leb, lt-ltb, le-ltb, ltb-true, lt
 use borrow.Author.Needs.{zero≤}
 use lib.Dec.{leb, ltb, eqb}
 use lib.ListN.{length}
-use Rattle.readings.specs.Ranges.{within, greatestTotalSeconds}
+use Rattle.readings.specs.Ranges.{within, greatestTotalSeconds, totalSeconds}
 use Rattle.fields.specs.declared.trouble.Trouble.{Trouble}
 use Rattle.fields.specs.declared.trouble.Trouble.the-variants.{Clear, At}
 use Rattle.fields.specs.Trouble.{first, troubleUnless, repeated, wrongSeconds, leftOver, Row}
-use Rattle.fields.proofs.FirstTrouble.{first-clear, first-at, unless-clear, told, each, checks-told, stops, each-clear}
+use Rattle.fields.proofs.FirstTrouble.{first-clear, first-at, unless-clear, told, each, checks-told, stops}
 use Rattle.heads.specs.Values.{fileHeaderSize, runHeaderSize, certificatePlace, certificateOf}
 use Rattle.parts.specs.Values.{pointPlace, segmentPlace, runAt}
 use Rattle.parts.specs.Rows.{pointsTrouble, segmentsTrouble, weighingsTrouble}
@@ -20,11 +20,12 @@ use Rattle.records.specs.declared.Counts.{Counts}
 use Rattle.heads.specs.Rows.{certificateTrouble}
 use Rattle.job.specs.Places.{certificateCountOf, runCountOf, runStart}
 use Rattle.job.specs.Troubles.{fileRows, fileTrouble, sameCertificate, repeats, entryTrouble, certificatesTrouble, goodSeconds, partsTrouble, runTrouble, runsTrouble, numberBefore, endTrouble, jobTrouble}
+use Rattle.findings.proofs.Accepting.{and-false}
 use Rattle.job.proofs.LookBack.{any-stops}
 use Rattle.demands.specs.ReadingOrder.{Fixed, fileHeader, oneCertificate, runHeader, onePoint, oneSegment, oneWeighing, numberOf, countsOf, startOf, sizeOf, rowsOf, Complete, Good, totalOfPoints, totalOfSegments, GoodJob, ReachedCertificate, ReachedRun, ReachedParts, Reached}
 use Rattle.demands.specs.Table.{FirstBad, here, later, NotNew, certificateAgain, numberNotAbove, FileRefused, row1, row2, row3, row4, row5, row6, row7, row8}
 use Rattle.demands.proofs.Troubles.{Met, early, late, met, failed, MetIn, met-in, unless-bad, RecordMet, short, bad, record-met, record-short, bad-checks, record-bad}
-use Rattle.demands.proofs.GoodParts.{fixedTrouble, size-some, clear-good, good-clear, repeats-same, same-repeats, one-found, clear-certificate, above-before, before-above, clear-run, points-clear, segments-clear, weighings-clear, number-clear, certificates-clear, runs-clear, clear-job, good-job}
+use Rattle.demands.proofs.GoodParts.{fixedTrouble, size-some, clear-good, good-clear, repeats-same, same-repeats, one-found, above-before, before-above, points-good, segments-good, weighings-good, certificates-good, runs-good, points-clear, segments-clear, weighings-clear, number-clear, certificates-clear, runs-clear, clear-job, good-job}
 
 -- Where a row applies, that is the reader's answer
 
@@ -70,10 +71,6 @@ module _ (s : List ℕ) {n p : ℕ} where
       ∙ first-clear _ (segments-clear s k _ (reached .segments))
       ∙ first-at _ (sym (stops (λ j. fixedTrouble s (oneWeighing k j)) i _ (weighings-clear s k i (reached .earlier)) refl told (reached .inside)) ∙ told))
 
-and-false : (a : Bool) → (a && false) ≡ false
-and-false true = refl
-and-false false = refl
-
 not-above : (s : List ℕ) (k : ℕ) → numberOf s (suc k) ≤ numberOf s k → ltb (numberBefore s (suc k)) (numberOf s (suc k)) ≡ false
 unfolding numberBefore runAt
 not-above s k low = le-ltb (numberOf s k) (numberOf s (suc k)) low
@@ -81,8 +78,17 @@ not-above s k low = le-ltb (numberOf s k) (numberOf s (suc k)) low
 -- the seconds are judged wrong where they are too many or not the same
 wrong-seconds : (s : List ℕ) (k : ℕ) → (greatestTotalSeconds < totalOfPoints s k) ⊎ (totalOfSegments s k ≡ totalOfPoints s k → ⊥) → goodSeconds s (runStart s k) (countsOf s k) ≡ false
 unfolding within
-wrong-seconds s k (inl many) = rw (lt-leb (totalOfPoints s k) greatestTotalSeconds many, and-false)
-wrong-seconds s k (inr other) = rw (ne-eqb (totalOfSegments s k) (totalOfPoints s k) other, and-false)
+wrong-seconds s k (inl many) = rw (le-leb 0 (totalOfPoints s k) zero≤, lt-leb (totalOfPoints s k) greatestTotalSeconds many)
+wrong-seconds s k (inr other) = rw (ne-eqb (totalOfSegments s k) (totalOfPoints s k) other) (sym (and-false (totalSeconds (totalOfPoints s k))))
+
+-- and where they are judged wrong, one or the other
+seconds-wrong : (s : List ℕ) (k : ℕ) → goodSeconds s (runStart s k) (countsOf s k) ≡ false → (greatestTotalSeconds < totalOfPoints s k) ⊎ (totalOfSegments s k ≡ totalOfPoints s k → ⊥)
+unfolding within
+seconds-wrong s k e = go (leb (totalOfPoints s k) greatestTotalSeconds) refl
+  where
+    go : (t : Bool) → leb (totalOfPoints s k) greatestTotalSeconds ≡ t → (greatestTotalSeconds < totalOfPoints s k) ⊎ (totalOfSegments s k ≡ totalOfPoints s k → ⊥)
+    go false f = inl (leb-false _ _ f)
+    go true f = inr (eqb-false _ _ (rw (le-leb 0 (totalOfPoints s k) zero≤, f) at e))
 
 pub row-told : (s : List ℕ) {n p : ℕ} → FileRefused s n p → jobTrouble s ≡ At n p
 unfolding jobTrouble runTrouble partsTrouble runAt
@@ -111,15 +117,6 @@ row-told s (row8 r more) =
     ∙ first-clear _ (certificates-clear s _ (r .certificates))
     ∙ first-clear _ (runs-clear s _ (r .runs))
     ∙ unless-bad leftOver (runStart s (runCountOf s)) (lt-leb _ _ more)
-
--- and where they are judged wrong, one or the other
-seconds-wrong : (s : List ℕ) (k : ℕ) → goodSeconds s (runStart s k) (countsOf s k) ≡ false → (greatestTotalSeconds < totalOfPoints s k) ⊎ (totalOfSegments s k ≡ totalOfPoints s k → ⊥)
-unfolding within
-seconds-wrong s k e = go (leb (totalOfPoints s k) greatestTotalSeconds) refl
-  where
-    go : (t : Bool) → leb (totalOfPoints s k) greatestTotalSeconds ≡ t → (greatestTotalSeconds < totalOfPoints s k) ⊎ (totalOfSegments s k ≡ totalOfPoints s k → ⊥)
-    go false f = inl (leb-false _ _ f)
-    go true f = inr (eqb-false _ _ (rw (le-leb 0 (totalOfPoints s k) zero≤, f) at e))
 
 -- a number that is not above the one before: the run is not the first
 not-new : (s : List ℕ) (k : ℕ) → ReachedRun s k → Good s (runHeader k) → ltb (numberBefore s k) (numberOf s k) ≡ false → NotNew s (runStart s k)
@@ -176,7 +173,7 @@ module _ (s : List ℕ) {n p : ℕ} where
       k = m .index
 
       reached : ReachedCertificate s k
-      reached = record { header = header; inside = m .inside; earlier = λ i h. clear-certificate s i (each-clear _ _ (m .clear) i h) }
+      reached = record { header = header; inside = m .inside; earlier = certificates-good s _ (m .clear) }
 
       go : Met (certificateTrouble s (certificatePlace k)) (troubleUnless (not (repeats s k)) repeated (certificatePlace k)) n p → FileRefused s n p
       go (early t) = of-fixed (oneCertificate k) reached refl t
@@ -215,9 +212,9 @@ module _ (s : List ℕ) {n p : ℕ} where
           (row7 k
           (record {
             parts = r;
-            points = λ i h. clear-good s (onePoint k i) (each-clear _ _ c i h);
-            segments = λ i h. clear-good s (oneSegment k i) (each-clear _ _ d i h);
-            weighings = λ i h. clear-good s (oneWeighing k i) (each-clear _ _ f i h);
+            points = points-good s k _ c;
+            segments = segments-good s k _ d;
+            weighings = weighings-good s k _ f;
           })
           (seconds-wrong s k (w .not)))
 
@@ -226,10 +223,10 @@ module _ (s : List ℕ) {n p : ℕ} where
           of-fixed (oneWeighing k (m .index))
           (record {
             parts = r;
-            points = λ i h. clear-good s (onePoint k i) (each-clear _ _ c i h);
-            segments = λ i h. clear-good s (oneSegment k i) (each-clear _ _ d i h);
+            points = points-good s k _ c;
+            segments = segments-good s k _ d;
             inside = m .inside;
-            earlier = λ i h. clear-good s (oneWeighing k i) (each-clear _ _ (m .clear) i h);
+            earlier = weighings-good s k _ (m .clear);
           })
           refl (m .told)
 
@@ -238,16 +235,16 @@ module _ (s : List ℕ) {n p : ℕ} where
           of-fixed (oneSegment k (m .index))
           (record {
             parts = r;
-            points = λ i h. clear-good s (onePoint k i) (each-clear _ _ c i h);
+            points = points-good s k _ c;
             inside = m .inside;
-            earlier = λ i h. clear-good s (oneSegment k i) (each-clear _ _ (m .clear) i h);
+            earlier = segments-good s k _ (m .clear);
           })
           refl (m .told)
 
       at-point : MetIn (λ i. fixedTrouble s (onePoint k i)) (counts .points) n p → FileRefused s n p
       at-point m =
           of-fixed (onePoint k (m .index))
-          (record { parts = r; inside = m .inside; earlier = λ i h. clear-good s (onePoint k i) (each-clear _ _ (m .clear) i h) })
+          (record { parts = r; inside = m .inside; earlier = points-good s k _ (m .clear) })
           refl (m .told)
 
       after-segments : points ≡ Clear → segments ≡ Clear → Met weighings seconds n p → FileRefused s n p
@@ -300,9 +297,9 @@ told-row s {n} {p} e = file (met _ _ e)
         of-run s (m .index)
         (record {
           header = header;
-          certificates = λ i h. clear-certificate s i (each-clear _ _ c i h);
+          certificates = certificates-good s _ c;
           inside = m .inside;
-          earlier = λ i h. clear-run s i (each-clear _ _ (m .clear) i h);
+          earlier = runs-good s _ (m .clear);
         })
         (m .told)
     behind-runs header c (late d t) =
@@ -311,8 +308,8 @@ told-row s {n} {p} e = file (met _ _ e)
         (row8
         (record {
           header = header;
-          certificates = λ i h. clear-certificate s i (each-clear _ _ c i h);
-          runs = λ i h. clear-run s i (each-clear _ _ d i h);
+          certificates = certificates-good s _ c;
+          runs = runs-good s _ d;
         })
         (leb-false _ _ (f .not)))
 

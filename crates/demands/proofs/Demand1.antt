@@ -11,6 +11,7 @@ use Rattle.fields.specs.declared.trouble.Trouble.{Trouble}
 use Rattle.fields.specs.declared.trouble.Trouble.the-variants.{Clear, At}
 use Rattle.job.specs.Places.{runCountOf, runOf}
 use Rattle.job.specs.Troubles.{jobTrouble}
+use Rattle.job.proofs.LookBack.{or-true}
 use Rattle.reduction.specs.declared.Which.{Which}
 use Rattle.reduction.specs.declared.Which.the-variants.{Index, NoRun}
 use Rattle.reduction.specs.declared.Reduced.{Reduced}
@@ -26,15 +27,11 @@ use Rattle.demands.proofs.ByTable.{row-told, told-row}
 use Rattle.demands.proofs.NamedRun.{only-run, outcome-of-run, outcome-of-none}
 use Rattle.demands.proofs.Apart.{answers-apart}
 
-or-true : (a : Bool) → (a || true) ≡ true
-or-true true = refl
-or-true false = refl
-
 -- an output is too short for a run: 9
 short-handed : (r : Reduced) (lines findings : ℕ) → (lines < sheetSize) ⊎ (findings < findingSize * r .findings .count) → handed r lines findings ≡ refused 9 0
 unfolding handed
 short-handed r lines findings (inl short) = rw (lt-ltb lines sheetSize short)
-short-handed r lines findings (inr short) = rw (lt-ltb findings (findingSize * r .findings .count) short, or-true)
+short-handed r lines findings (inr short) = rw (lt-ltb findings (findingSize * r .findings .count) short, or-true (ltb lines sheetSize) true refl)
 
 -- where a row applies, the outcome is that refusal
 row-outcome : (s : List ℕ) (run lines findings : ℕ) {n p : ℕ} → CallRefused s run lines findings n p → outcome s run lines findings ≡ refused n p

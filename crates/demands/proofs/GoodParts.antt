@@ -106,21 +106,7 @@ unfolding numberBefore runAt
 before-above s zero g h = within-least leastRunNumber greatestRunNumber _ (g .fields .0)
 before-above s (suc k) g h = h
 
-pub clear-run : (s : List ℕ) (k : ℕ) → runTrouble s (runStart s k) (numberBefore s k) ≡ Clear → GoodRun s k
-unfolding runAt
-clear-run s k e =
-    let r = run-clear s (runStart s k) (numberBefore s k) e in
-    record {
-      header = clear-good s (runHeader k) (r .header);
-      above = above-before s k (r .above);
-      points = λ i h. clear-good s (onePoint k i) (each-clear _ _ (r .points) i h);
-      segments = λ i h. clear-good s (oneSegment k i) (each-clear _ _ (r .segments) i h);
-      weighings = λ i h. clear-good s (oneWeighing k i) (each-clear _ _ (r .weighings) i h);
-      total = within-greatest 0 greatestTotalSeconds _ (r .total);
-      balanced = r .balanced;
-    }
-
--- the parts of a run are clear in turn
+-- the parts of a run: good exactly where they are clear
 pub points-clear : (s : List ℕ) (k n : ℕ) → GoodPoints s k n → pointsTrouble s (runStart s k + runHeaderSize) n ≡ Clear
 points-clear s k n g = all-clear _ n (λ i h. good-clear s (onePoint k i) (g i h))
 
@@ -129,6 +115,29 @@ segments-clear s k n g = all-clear _ n (λ i h. good-clear s (oneSegment k i) (g
 
 pub weighings-clear : (s : List ℕ) (k n : ℕ) → GoodWeighings s k n → weighingsTrouble s (segmentPlace (runStart s k) (countsOf s k) (countsOf s k .segments)) n ≡ Clear
 weighings-clear s k n g = all-clear _ n (λ i h. good-clear s (oneWeighing k i) (g i h))
+
+pub points-good : (s : List ℕ) (k n : ℕ) → pointsTrouble s (runStart s k + runHeaderSize) n ≡ Clear → GoodPoints s k n
+points-good s k n clear i inside = clear-good s (onePoint k i) (each-clear _ n clear i inside)
+
+pub segments-good : (s : List ℕ) (k n : ℕ) → segmentsTrouble s (pointPlace (runStart s k) (countsOf s k .points)) n ≡ Clear → GoodSegments s k n
+segments-good s k n clear i inside = clear-good s (oneSegment k i) (each-clear _ n clear i inside)
+
+pub weighings-good : (s : List ℕ) (k n : ℕ) → weighingsTrouble s (segmentPlace (runStart s k) (countsOf s k) (countsOf s k .segments)) n ≡ Clear → GoodWeighings s k n
+weighings-good s k n clear i inside = clear-good s (oneWeighing k i) (each-clear _ n clear i inside)
+
+pub clear-run : (s : List ℕ) (k : ℕ) → runTrouble s (runStart s k) (numberBefore s k) ≡ Clear → GoodRun s k
+unfolding runAt
+clear-run s k e =
+    let r = run-clear s (runStart s k) (numberBefore s k) e in
+    record {
+      header = clear-good s (runHeader k) (r .header);
+      above = above-before s k (r .above);
+      points = points-good s k _ (r .points);
+      segments = segments-good s k _ (r .segments);
+      weighings = weighings-good s k _ (r .weighings);
+      total = within-greatest 0 greatestTotalSeconds _ (r .total);
+      balanced = r .balanced;
+    }
 
 pub number-clear : (s : List ℕ) (k : ℕ) → Good s (runHeader k) → Above s k → troubleUnless (ltb (numberBefore s k) (numberOf s k)) repeated (runStart s k) ≡ Clear
 number-clear s k g h = unless-good repeated (runStart s k) (lt-ltb _ _ (before-above s k g h))
@@ -152,8 +161,14 @@ good-run s k g =
 pub certificates-clear : (s : List ℕ) (n : ℕ) → GoodCertificates s n → upTo (entryTrouble s) n ≡ Clear
 certificates-clear s n g = all-clear _ n (λ k h. good-certificate s k (g k h))
 
+pub certificates-good : (s : List ℕ) (n : ℕ) → upTo (entryTrouble s) n ≡ Clear → GoodCertificates s n
+certificates-good s n clear k inside = clear-certificate s k (each-clear _ n clear k inside)
+
 pub runs-clear : (s : List ℕ) (n : ℕ) → GoodRuns s n → runsTrouble s n ≡ Clear
 runs-clear s n g = all-clear _ n (λ k h. good-run s k (g k h))
+
+pub runs-good : (s : List ℕ) (n : ℕ) → runsTrouble s n ≡ Clear → GoodRuns s n
+runs-good s n clear k inside = clear-run s k (each-clear _ n clear k inside)
 
 -- a job is good exactly if the reader meets no trouble
 pub clear-job : (s : List ℕ) → jobTrouble s ≡ Clear → GoodJob s
@@ -161,8 +176,8 @@ clear-job s e =
     let j = job-clear s e in
     record {
       header = clear-good s fileHeader (j .file);
-      certificates = λ k h. clear-certificate s k (each-clear _ _ (j .certificates) k h);
-      runs = λ k h. clear-run s k (each-clear _ _ (j .runs) k h);
+      certificates = certificates-good s _ (j .certificates);
+      runs = runs-good s _ (j .runs);
       end = j .end;
     }
 

@@ -14,7 +14,7 @@ use Rattle.rules.specs.Rules.{fault}
 use Rattle.findings.specs.declared.Finding.{Finding}
 use Rattle.findings.specs.Listing.{accepted, noFinding}
 
-and-false : (b : Bool) → false ≡ (b && false)
+pub and-false : (b : Bool) → false ≡ (b && false)
 and-false true = refl
 and-false false = refl
 
