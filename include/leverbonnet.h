@@ -1,6 +1,9 @@
 /*
  * leverbonnet.h - the six calls of the proved library.
  *
+ * What they read and write is described byte by byte in docs/RULES.md. What they
+ * write can be taken apart and said in words with leverbonnet_words.h.
+ *
  * Every call answers one uint64_t:
  *
  *     high 32 bits   0 for success, else the number of the refusal
@@ -9,22 +12,27 @@
  *
  * A buffer is lent as a pointer and its length in bytes, and no pointer is
  * kept. Lent outputs must not overlap each other or the job. A length may be
- * 0, and the pointer is then not followed; it still must not be NULL. On
- * success only the bytes described below are written and every lent byte
- * beyond them stays as it was. On a refusal no lent byte changes at all.
+ * 0; the pointer is then not followed, and may be NULL. On success only the
+ * bytes described below are written and every lent byte beyond them stays as
+ * it was. On a refusal no lent byte changes at all.
+ *
+ * The library has no state of its own: every call may be made from any thread,
+ * and from several at once, as long as no two write to the same output.
  *
  * Refusals:
  *
- *      1  the job ends inside its header or a record     place: job_len
- *      2  the mark is not "SRJ"                          place: 0
+ *      1  the job ends before its header or a record
+ *         is complete                                    place: job_len
+ *      2  the mark is not SRJ                            place: 0
  *      3  the version is not 1                           place: 3
  *      4  a count is out of range                        place: that count
  *      5  another field is out of range                  place: its first byte
- *      6  a certificate repeats an earlier one, or run
- *         numbers do not rise                            place: the record
- *      7  points last over 36,000 seconds together, or
- *         segments do not last as long as points         place: the run
- *      8  bytes follow the last run                      place: first of them
+ *      6  a certificate repeats an earlier one, or a
+ *         run's number is not above that of the run
+ *         before                                         place: the record
+ *      7  the points last over 36,000 seconds, or the
+ *         segments not as long as the points             place: the run
+ *      8  bytes are left over behind the last run        place: first of them
  *      9  a lent output is too short                     place: 0
  *     10  the job has no such run                        place: 0
  *     11  a layout is outside its ranges                 place: 0
@@ -48,16 +56,19 @@ extern "C" {
 #define LEVERBONNET_VALUE(answer) ((uint32_t)(answer))
 
 /* Bytes of one line, of a reduced run's twenty lines, and of one finding. */
-#define LEVERBONNET_LINE_LEN 9
-#define LEVERBONNET_LINES_LEN (20 * LEVERBONNET_LINE_LEN)
-#define LEVERBONNET_FINDING_LEN 4
+#define LEVERBONNET_LINE_BYTES 9
+#define LEVERBONNET_LINES_BYTES (20 * LEVERBONNET_LINE_BYTES)
+#define LEVERBONNET_FINDING_BYTES 4
 
 /* Enough bytes for the findings of any run: it is proved that none has more than
  * 98. */
-#define LEVERBONNET_FINDINGS_MOST (LEVERBONNET_FINDING_LEN * 98)
+#define LEVERBONNET_FINDINGS_BYTES_MOST (98 * LEVERBONNET_FINDING_BYTES)
 
 /* Enough bytes for the text of any job: it is proved that none has more. */
-#define LEVERBONNET_TEXT_MOST 27088
+#define LEVERBONNET_TEXT_BYTES_MOST 27088
+
+/* The longest job. Of a longer file nothing past the next byte changes an answer. */
+#define LEVERBONNET_JOB_BYTES_MOST 17161
 
 /* Added to the number of findings when the run is accepted. */
 #define LEVERBONNET_ACCEPTED 65536

@@ -1,4 +1,4 @@
--- The laws of the nearest root: the definition satisfies its two inequalities, only one number does, and both roots of the paper are it.
+-- The laws of the nearest root: the definition satisfies its two inequalities, only one number does, and both roots of docs/RULES.md are it.
 use Prim.Native.Nat.{ℕ, zero, suc, _+_, _-_, _*_, _/_, _^_, _≤_, _<_}
 use mathlib.Core.Path.{_≡_, _∙_}
 use native.Mathlib.Nat.{mul-add, add-assoc, mul-assoc, two-mul, mul-le-mul, pow-suc, pow-succ', le-trans, le-of-lt, lt-of-lt-of-le, lt-of-not-le, not-le-of-lt, le-div-iff-mul-le, le-antisymm, pos-of-ne-zero}

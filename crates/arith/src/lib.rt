@@ -1,4 +1,4 @@
-// The ground floor: rounded division and the nearest root, each once for every unit of the paper, and three small choices.
+// The ground floor: rounded division and the nearest root, each once for every unit, and three small choices.
 // Nothing here knows of stacks or meters. The layers above rely on `roundDiv` and `nearestRoot` and their laws.
 
 ghost use mathlib.Core.Path.{_≡_};

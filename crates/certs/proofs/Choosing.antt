@@ -89,7 +89,7 @@ module _ (after : Bool) (kind : ℕ) (identity : Identity) (day : ℕ) (f : ℕ 
           let far = sym (where-found k _) ∙ e in
           rw (so, ← is, ← on k refl, far)
 
--- The tests of the definition and the words of the paper say the same
+-- The tests of the definition and the words of docs/RULES.md say the same
 dated-true : (after : Bool) (day dated : ℕ) → soDated after day dated ≡ true → Dated after day dated
 dated-true false day dated e = leb-true _ _ e
 dated-true true day dated e = ltb-true _ _ e

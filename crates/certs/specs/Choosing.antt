@@ -1,4 +1,4 @@
--- Choosing certificates: kind, maker and serial all count, and one before or after the run's day.
+-- docs/RULES.md, Choosing certificates: kind, maker and serial all count, and one before or after the run's day.
 use Prim.Native.Nat.{ℕ, zero, suc, _≤_, _<_}
 use mathlib.Core.Path.{_≡_}
 use mathlib.Core.Bool.{Bool, true, false, cond, not, _&&_, _||_}
@@ -54,7 +54,7 @@ chosenFor f n h =
       nozzle = chosen false nozzle (h .nozzle) (h .day) f n;
     }
 
--- What the choice is promised to be, in the paper's words
+-- What the choice is promised to be, in the words of docs/RULES.md
 
 -- dated on or before the day, or later than it
 abbrev pub Dated : Bool → ℕ → ℕ → Type 0

@@ -1,4 +1,4 @@
--- What the chosen certificates give the lines.
+-- What the chosen certificates give the lines; of the factor Y, docs/RULES.md, Choosing certificates.
 use Prim.Native.Nat.{ℕ, _*_, min}
 use mathlib.Core.Bool.{cond}
 use Rattle.values.specs.declared.Value.{Value}

@@ -1,4 +1,4 @@
--- Rule 9 in the paper's own words.
+-- Rule 9 in the words of docs/RULES.md.
 use Prim.Native.Nat.{ℕ, _+_, _*_, _/_, _%_}
 use mathlib.Core.Path.{_≡_, refl, ap}
 use mathlib.Core.Bool.{Bool, true, false, cond, not}

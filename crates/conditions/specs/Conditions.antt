@@ -1,4 +1,4 @@
--- What each of the twenty rules goes by.
+-- What each of the twenty rules of docs/RULES.md goes by.
 use Prim.Native.Nat.{ℕ, _+_, _-_, _*_, _/_, _^_, _≤_, min, max}
 use mathlib.Core.Path.{_≡_}
 use mathlib.Core.Bool.{Bool, cond, _&&_}

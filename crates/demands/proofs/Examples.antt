@@ -1,4 +1,4 @@
--- The worked job is read as 01 prints it, each refusal number is given for some file, and no other number is ever given.
+-- The worked job is read as docs/RULES.md prints it, each refusal number is given for some file, and no other number is ever given.
 use mathlib.Core.Path.{_≡_, refl}
 use mathlib.Core.List.{List, [], _∷_, map}
 use Rattle.fields.specs.Numbers.{u16At, u32At, i16At}

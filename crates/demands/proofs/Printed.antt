@@ -1,4 +1,4 @@
--- The printed job is answered as the paper prints it: by computation, from its bytes to the bytes of its lines and its finding.
+-- The worked job is answered as docs/RULES.md prints it: by computation, from its bytes to the bytes of its lines and its finding.
 use mathlib.Core.Path.{refl}
 use Rattle.arith.specs.Root.{grown, floorRoot, nearestRoot}
 use Rattle.arith.specs.Rounding.{roundDiv}

@@ -1,4 +1,4 @@
--- Rule 13 in the paper's own words.
+-- Rule 13 in the words of docs/RULES.md.
 use Prim.Native.Nat.{ℕ}
 use mathlib.Core.Path.{_≡_, refl, ap}
 use mathlib.Core.Bool.{true, false≢true}

@@ -1,4 +1,4 @@
--- All starred values of the paper hold: one statement over one list.
+-- All starred values of docs/RULES.md hold: one statement over one list.
 use mathlib.Core.List.{List, [], _∷_, _++_, map}
 use Rattle.lines.specs.Starred.{roots, leak, workedLines}
 use Rattle.lines.proofs.Starred.{roots-hold, leak-holds, worked-lines-hold}

@@ -1,4 +1,4 @@
--- The twenty equations of a run by name, each from the lines that it names.
+-- The twenty lines of docs/RULES.md: an equation each, by name, from the lines that it names.
 use Prim.Native.Nat.{ℕ, _-_}
 use mathlib.Core.List.{List, [], _∷_}
 use lib.IntN.{ℤ}

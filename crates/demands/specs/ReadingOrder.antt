@@ -1,4 +1,4 @@
--- A file in reading order: its header and fixed parts, what makes each good, and when each is reached.
+-- A file in the reading order of docs/RULES.md, Refusals: its header and fixed parts, what makes each good, and when each is reached.
 use Prim.Native.Nat.{ℕ, zero, suc, _+_, _≤_, _<_}
 use mathlib.Core.Path.{_≡_}
 use mathlib.Core.List.{List}

@@ -1,4 +1,4 @@
--- The starred values of the paper, in one list, and beside them the answer to its printed job.
+-- The starred values of docs/RULES.md, in one list, and beside them the answer to its worked job.
 use Prim.Native.Nat.{ℕ}
 use mathlib.Core.Path.{_≡_}
 use mathlib.Core.List.{List, [], _∷_, _++_, map}
@@ -19,7 +19,7 @@ use Rattle.writing.specs.Bytes.{sheetSize, findingSize}
 use Rattle.output.specs.Answers.{packed}
 use Rattle.runs.specs.Outcomes.{outcome, answerOf, linesAfter, findingsAfter}
 
--- a starred value: numbers worked out beside the paper's, a factor, a line 18, the positions of six points, or what a file is read as
+-- a starred value: numbers worked out beside those of the list, a factor, a line 18, the positions of six points, or what a file is read as
 pub data StarredValue : Type 0 where
   ofNumbers : Example → StarredValue
   ofFactor : StarredFactor → StarredValue
@@ -27,7 +27,7 @@ pub data StarredValue : Type 0 where
   ofPositions : List ℕ → StarredValue
   ofReading : List ℕ → Job → List Certificate → Run → StarredValue
 
--- it stands as the paper prints it
+-- it stands as docs/RULES.md prints it
 abbrev pub Stands : StarredValue → Type 0
 Stands (ofNumbers e) = e .worked ≡ e .expected
 Stands (ofFactor f) = FactorStands f

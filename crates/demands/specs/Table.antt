@@ -1,5 +1,5 @@
--- The table of refusals, row by row: when each applies, with its number and its place. Every row says that all before it in reading
--- order is good.
+-- The table of docs/RULES.md, Refusals, row by row: when each applies, with its number and its place. Every row says that all before
+-- it in reading order is good.
 use Prim.Native.Nat.{ℕ, suc, _+_, _*_, _≤_, _<_}
 use mathlib.Core.Path.{_≡_}
 use mathlib.Core.Bool.{true, false}

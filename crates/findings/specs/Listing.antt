@@ -1,4 +1,4 @@
--- The list of a run's findings: every rule at each of its places, in order, kept where it is broken.
+-- The list of a run's findings (docs/RULES.md, The findings): every rule at each of its places, in order, kept where it is broken.
 use Prim.Native.Nat.{ℕ, zero, suc, _+_, _-_, _≤_, _<_}
 use mathlib.Core.Path.{_≡_}
 use mathlib.Core.Bool.{Bool, true, cond, not, _&&_}
@@ -104,7 +104,7 @@ pub record Worked (r : Run) (ch : Chosen) (l : Lines) : Type 0 where
   pub ok : RunOk r
   pub lines : l ≡ linesFor r ch
 
--- What the list is promised to be, in the paper's words
+-- What the list is promised to be, in the words of docs/RULES.md
 
 -- a run breaks a rule at a place: one of the twenty rules, at one of its places
 pub record Breaks (r : Run) (ch : Chosen) (l : Lines) (rule place : ℕ) : Type 0 where

@@ -1,4 +1,4 @@
--- Where the certificates and the runs of a job stand: a header of 9 bytes, the certificates, the runs, one after the other.
+-- Where the certificates and the runs of a job stand (docs/RULES.md, The job file): a header of 9 bytes, the certificates, the runs, one after the other.
 use Prim.Native.Nat.{ℕ, zero, suc}
 use mathlib.Core.List.{List}
 use Rattle.fields.specs.Numbers.{u16At}

@@ -1,4 +1,4 @@
--- The first trouble of a job: header, certificates, runs, bytes left over.
+-- The first trouble of a job, in the order of docs/RULES.md, Refusals: header, certificates, runs, bytes left over.
 use Prim.Native.Nat.{ℕ, zero, suc, _+_}
 use mathlib.Core.Bool.{Bool, false, not, _&&_, _||_}
 use mathlib.Core.List.{List, [], _∷_}

@@ -1,4 +1,4 @@
--- The job that 01 prints, byte for byte and value for value, and small files that are refused.
+-- The worked job of docs/RULES.md, byte for byte and value for value, and small files that are refused.
 use Prim.Native.Nat.{ℕ, zero, suc, _-_, _/_, _%_}
 use mathlib.Core.List.{List, [], _∷_, _++_}
 use lib.ListN.{replicate}

@@ -1,4 +1,4 @@
--- The laws that the proofs of the sheet share, and the paper's values.
+-- The laws that the proofs of the sheet share, and the starred values.
 pub mod RunInRange
 pub mod Together
 pub mod Written

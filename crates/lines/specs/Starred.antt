@@ -1,4 +1,4 @@
--- The paper's values on either side that belong to the lines, and the worked job's sheet: what is worked out, beside what is printed.
+-- The starred values of docs/RULES.md that belong to the lines, and the worked job's sheet: what is worked out, beside what is printed.
 use Prim.Native.Nat.{ℕ}
 use mathlib.Core.List.{List, [], _∷_, map}
 use lib.IntN.{natAbs}

@@ -1,3 +1,3 @@
--- Lines 1 to 8 in the paper's order, and their ranges.
+-- Lines 1 to 8 in the order of docs/RULES.md, and their ranges.
 pub mod Metering
 pub mod Promise

@@ -9,7 +9,7 @@ ghost use Rattle.output.specs.Answers.{packed};
 ghost use Rattle.output.specs.Bytes.{le, signedBits};
 ghost use Rattle.output.specs.Splice.{spliced};
 
-// What a call answers: done, with a number; or refused, with the paper's number and the place.
+// What a call answers: done, with a number; or refused, with its number and the place.
 pub enum Answer {
     Done(u32),
     Refused(u32, u32),

@@ -1,4 +1,4 @@
--- What is printed of a file, as characters.
+-- What is printed of a file, as characters (docs/RULES.md, The printed text).
 use Prim.Native.Nat.{ℕ}
 use mathlib.Core.List.{List, [], _∷_, _++_}
 use Rattle.fields.specs.declared.trouble.Trouble.{Trouble}

@@ -1,3 +1,3 @@
--- The paper's ranges, one for each kind of reading, and the grids.
+-- The ranges of docs/RULES.md, one for each kind of reading, and the grids.
 pub mod Ranges
 pub mod Grids

@@ -1,5 +1,5 @@
-// The kinds of reading: a type for each, with the least and the greatest value that the paper allows and the check that uses them.
-// Each check's contract cites a definition of specs/Ranges that holds the paper's numbers, so a constant changed alone is refused.
+// The kinds of reading: a type for each, with the least and the greatest value that docs/RULES.md allows and the check that uses them.
+// Each check's contract cites a definition of specs/Ranges that holds its numbers, so a constant changed alone is refused.
 // Relies on nothing below it.
 
 pub mod certificates;

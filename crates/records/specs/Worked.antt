@@ -1,4 +1,4 @@
--- The worked job of the paper, as values: one run, its two meter certificates, its pitot tube's and its nozzle's.
+-- The worked job of docs/RULES.md, as values: one run, its two meter certificates, its pitot tube's and its nozzle's.
 use Prim.Native.Nat.{ℕ}
 use mathlib.Core.List.{List, [], _∷_, _++_}
 use lib.IntN.{pos, negsuc}

@@ -1,4 +1,4 @@
--- The table of the twenty rules, of what places each speaks, and its class.
+-- The table of the twenty rules of docs/RULES.md, of what places each speaks, and its class.
 use Prim.Native.Nat.{ℕ, _+_, _-_, _*_, _/_, _^_, _≤_}
 use mathlib.Core.Path.{_≡_}
 use mathlib.Core.Bool.{cond, _&&_}

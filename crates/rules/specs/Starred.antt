@@ -1,4 +1,4 @@
--- The paper's starred values that are about rules, as lists of what is given and what is expected.
+-- The starred values of docs/RULES.md that are about rules, as lists of what is given and what is expected.
 use Prim.Native.Nat.{ℕ}
 use mathlib.Core.Path.{_≡_}
 use mathlib.Core.Bool.{Bool, true, false}

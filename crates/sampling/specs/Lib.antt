@@ -1,3 +1,3 @@
--- Lines 16 to 20 in the paper's order, and their ranges.
+-- Lines 16 to 20 in the order of docs/RULES.md, and their ranges.
 pub mod Sampling
 pub mod Promise

@@ -1,4 +1,4 @@
--- Lines 16 to 20: the nozzle, the percent isokinetic, the catch and the concentration.
+-- Lines 16 to 20 of docs/RULES.md: the nozzle, the percent isokinetic, the catch and the concentration.
 use Prim.Native.Nat.{ℕ, _+_, _*_, _/_, _^_, min}
 use mathlib.Core.List.{List}
 use lib.IntN.{ℤ, pos, negsuc, subℕ}

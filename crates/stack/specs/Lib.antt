@@ -1,3 +1,3 @@
--- Lines 9 to 15 in the paper's order, and their ranges.
+-- Lines 9 to 15 in the order of docs/RULES.md, and their ranges.
 pub mod Stack
 pub mod Promise

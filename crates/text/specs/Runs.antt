@@ -1,4 +1,4 @@
--- The findings of a run and a run as a whole, as characters.
+-- The findings of a run and a run as a whole, as characters (docs/RULES.md, The printed text).
 use Prim.Native.Nat.{ℕ}
 use mathlib.Core.Bool.{Bool, cond}
 use mathlib.Core.List.{List, [], _∷_, _++_}

@@ -1,4 +1,4 @@
--- Where the points of a diameter stand, in thousandths of the diameter.
+-- Where the points of a diameter stand, in thousandths of the diameter (docs/RULES.md, Traverse layouts).
 use Prim.Native.Nat.{ℕ, _+_, _-_, _*_, _/_, _^_, _≤_, _<_}
 use mathlib.Core.Bool.{cond}
 use mathlib.Core.List.{List, [], _∷_}
@@ -19,6 +19,6 @@ nearPosition n i = 500 - nearestRoot (10 ^ 6 * (n - 2 * i + 1) / n)
 unfoldable pub position : ℕ → ℕ → ℕ
 position n i = cond (leb (2 * i) n) (nearPosition n i) (1000 - nearPosition n (n + 1 - i))
 
--- the paper's positions for 6 points
+-- the starred positions for 6 points
 unfoldable pub starredPositions : List ℕ
 starredPositions = 44 ∷ 146 ∷ 296 ∷ 704 ∷ 854 ∷ 956 ∷ []

@@ -1,4 +1,4 @@
--- The layout of a rectangular stack: n points at the centers of equal cells, on sides of 0.1 in.
+-- The layout of a rectangular stack (docs/RULES.md, Traverse layouts): n points at the centers of equal cells, on sides of 0.1 in.
 use Prim.Native.Nat.{ℕ, _+_, _-_, _*_}
 use mathlib.Core.Bool.{Bool, cond, _&&_}
 use mathlib.Core.List.{List, [], _∷_}

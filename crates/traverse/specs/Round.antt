@@ -1,4 +1,4 @@
--- The layout of a round stack: n points on a diameter of 0.1 in, sampled with a nozzle of 0.001 in.
+-- The layout of a round stack (docs/RULES.md, Traverse layouts): n points on a diameter of 0.1 in, sampled with a nozzle of 0.001 in.
 use Prim.Native.Nat.{ℕ, _-_, _*_, min, max}
 use mathlib.Core.Bool.{Bool, cond, _&&_}
 use mathlib.Core.List.{List, [], _∷_}

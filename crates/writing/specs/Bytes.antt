@@ -1,4 +1,4 @@
--- Lines and findings as bytes.
+-- Lines and findings as bytes (docs/RULES.md, A reduced run as bytes).
 use Prim.Native.Nat.{ℕ, _*_}
 use mathlib.Core.List.{List, _∷_}
 use lib.ListN.{getD}

@@ -1,0 +1,190 @@
+/*
+ * Tries the calls and the words at their edges: layouts, NULL with length 0, numbers
+ * that there are not, texts that are cut off. The job on standard input is
+ * examples/several-runs.job, whose run 1 has no finding.
+ *
+ * Status 0: all is as it must be; 1: something is not, which is told.
+ */
+
+#include "leverbonnet_words.h"
+
+#include <stdio.h>
+#include <string.h>
+
+#define REFUSED(number, place) ((uint64_t)(number) << 32 | (place))
+
+static uint8_t job[LEVERBONNET_JOB_BYTES_MOST + 1];
+static size_t job_len;
+static int troubles;
+
+static void must(int holds, const char *what)
+{
+    if (!holds) {
+        fprintf(stderr, "edges: %s: this does not hold.\n", what);
+        troubles++;
+    }
+}
+
+#define MUST(condition) must(condition, #condition)
+
+/* The number in 4 bytes, the lowest first. */
+static uint32_t distance(const uint8_t *bytes)
+{
+    return (uint32_t)bytes[0] | (uint32_t)bytes[1] << 8 | (uint32_t)bytes[2] << 16 | (uint32_t)bytes[3] << 24;
+}
+
+/* 6 points on a diameter of 100 in stand at so many thousandths of it. */
+static void round_layouts(void)
+{
+    static const uint32_t thousandths[6] = {44, 146, 296, 704, 854, 956};
+    uint8_t out[25];
+    size_t k;
+    out[24] = 7;
+    MUST(leverbonnet_round_layout(6, 1000, 250, out, sizeof out) == 24);
+    MUST(out[24] == 7);
+    for (k = 0; k < 6; k++)
+        MUST(distance(out + 4 * k) == 100 * thousandths[k]);
+    MUST(leverbonnet_round_layout(7, 1000, 250, out, sizeof out) == REFUSED(11, 0));
+}
+
+/* 12 cells of 10 by 10 in, four along the first side. */
+static void rectangular_layouts(void)
+{
+    uint8_t out[96];
+    size_t k;
+    MUST(leverbonnet_rect_layout(12, 400, 300, out, sizeof out) == 96);
+    for (k = 0; k < 12; k++) {
+        MUST(distance(out + 8 * k) == 5000 + 10000 * (k % 4));
+        MUST(distance(out + 8 * k + 4) == 5000 + 10000 * (k / 4));
+    }
+    MUST(leverbonnet_rect_layout(13, 400, 300, out, sizeof out) == REFUSED(11, 0));
+}
+
+/* Of length 0 any buffer may be NULL. */
+static void no_job(void)
+{
+    MUST(leverbonnet_reduce(NULL, 0, 1, NULL, 0, NULL, 0) == REFUSED(1, 0));
+    MUST(leverbonnet_run_count(NULL, 0) == REFUSED(1, 0));
+    MUST(leverbonnet_run_number(NULL, 0, 0) == REFUSED(1, 0));
+    MUST(leverbonnet_sheet_text(NULL, 0, NULL, 0) == REFUSED(1, 0));
+}
+
+static void no_output(void)
+{
+    uint8_t lines[LEVERBONNET_LINES_BYTES], findings[LEVERBONNET_FINDINGS_BYTES_MOST];
+    MUST(leverbonnet_reduce(job, job_len, 1, NULL, 0, NULL, 0) == REFUSED(9, 0));
+    MUST(leverbonnet_reduce(job, job_len, 1, NULL, 0, findings, sizeof findings) == REFUSED(9, 0));
+    MUST(leverbonnet_reduce(job, job_len, 1, lines, sizeof lines, NULL, 0) == LEVERBONNET_ACCEPTED);
+    MUST(leverbonnet_reduce(job, job_len, 2, lines, sizeof lines, NULL, 0) == REFUSED(9, 0));
+    MUST(leverbonnet_reduce(job, job_len, 998, NULL, 0, NULL, 0) == REFUSED(10, 0));
+    MUST(leverbonnet_sheet_text(job, job_len, NULL, 0) == REFUSED(9, 0));
+    MUST(leverbonnet_round_layout(6, 1000, 250, NULL, 0) == REFUSED(9, 0));
+    MUST(leverbonnet_round_layout(7, 1000, 250, NULL, 0) == REFUSED(11, 0));
+    MUST(leverbonnet_rect_layout(12, 400, 300, NULL, 0) == REFUSED(9, 0));
+    MUST(leverbonnet_rect_layout(13, 400, 300, NULL, 0) == REFUSED(11, 0));
+}
+
+static void line_must_read(unsigned number, int present, int64_t value, const char *expected)
+{
+    leverbonnet_line line;
+    char words[LEVERBONNET_WORDS_MOST];
+    line.number = number;
+    line.present = present;
+    line.value = value;
+    must(leverbonnet_line_words(line, words, sizeof words) == (int)strlen(expected), expected);
+    must(strcmp(words, expected) == 0, expected);
+}
+
+static void lines_in_words(void)
+{
+    line_must_read(1, 1, 3600, " 1                  Time  3600 s");
+    line_must_read(16, 1, 34089, "16           Nozzle area  0.00034089 ft2");
+    line_must_read(18, 1, 9980, "18    Percent isokinetic  99.80 %");
+    line_must_read(19, 1, -4, "19                 Catch  -0.4 mg");
+    line_must_read(19, 1, INT64_MIN, "19                 Catch  -922337203685477580.8 mg");
+    line_must_read(20, 1, 0, "20         Concentration  0.00000 gr/dscf");
+    line_must_read(20, 0, 0, "20         Concentration  absent");
+    line_must_read(21, 0, 0, "21                        absent");
+}
+
+static void finding_must_read(unsigned rule, int fault, unsigned place, const char *expected)
+{
+    leverbonnet_finding finding;
+    char words[LEVERBONNET_WORDS_MOST];
+    finding.rule = rule;
+    finding.fault = fault;
+    finding.place = place;
+    must(leverbonnet_finding_words(finding, words, sizeof words) == (int)strlen(expected), expected);
+    must(strcmp(words, expected) == 0, expected);
+}
+
+static void findings_in_words(void)
+{
+    finding_must_read(11, 0, 1, "Note 11, segment 1: the leak rate is above the allowance.");
+    finding_must_read(17, 1, 8, "Fault 17, weighing 8: the two final weights differ by more than 0.5 mg.");
+    finding_must_read(18, 1, 0, "Fault 18: no filter was weighed.");
+    finding_must_read(255, 1, 0, "Fault 255: .");
+}
+
+static void refusal_must_read(uint64_t answer, const char *expected)
+{
+    char words[LEVERBONNET_WORDS_MOST];
+    must(leverbonnet_refusal_words(answer, words, sizeof words) == (int)strlen(expected), expected);
+    must(strcmp(words, expected) == 0, expected);
+}
+
+static void refusals_in_words(void)
+{
+    refusal_must_read(REFUSED(5, 167), "refusal 5 at byte 167: a field is out of its range");
+    refusal_must_read(REFUSED(9, 0), "refusal 9: a lent output is too short");
+    refusal_must_read(REFUSED(99, 0), "refusal 99: ");
+}
+
+/* Whatever the number, the texts fit the room that is said to be enough. */
+static void words_fit(void)
+{
+    leverbonnet_line line;
+    leverbonnet_finding finding;
+    line.present = finding.fault = 1;
+    line.value = INT64_MIN;
+    for (line.number = 0; line.number < 300; line.number++)
+        MUST(leverbonnet_line_words(line, NULL, 0) < LEVERBONNET_WORDS_MOST);
+    for (finding.rule = 0; finding.rule < 256; finding.rule++)
+        for (finding.place = 0; finding.place <= 65535; finding.place += 65535)
+            MUST(leverbonnet_finding_words(finding, NULL, 0) < LEVERBONNET_WORDS_MOST);
+    for (finding.rule = 1; finding.rule < 300; finding.rule++)
+        MUST(leverbonnet_refusal_words(REFUSED(finding.rule, UINT32_MAX), NULL, 0) < LEVERBONNET_WORDS_MOST);
+}
+
+static void words_are_cut_off(void)
+{
+    char words[6] = "abcde";
+    MUST(leverbonnet_refusal_words(REFUSED(9, 0), words, 4) == 37);
+    MUST(memcmp(words, "ref\0e", 6) == 0);
+}
+
+static void no_such_number(void)
+{
+    uint8_t lines[LEVERBONNET_LINES_BYTES] = {1};
+    MUST(!leverbonnet_line_of(lines, 0).present && !leverbonnet_line_of(lines, 21).present);
+    MUST(leverbonnet_line_name(0)[0] == 0 && leverbonnet_line_unit(21)[0] == 0 && leverbonnet_line_decimals(21) == 0);
+    MUST(leverbonnet_rule_clause(0)[0] == 0 && leverbonnet_rule_place(21)[0] == 0);
+    MUST(leverbonnet_refusal_clause(0)[0] == 0 && leverbonnet_refusal_clause(12)[0] == 0);
+}
+
+int main(void)
+{
+    job_len = fread(job, 1, sizeof job, stdin);
+    MUST(!ferror(stdin));
+    round_layouts();
+    rectangular_layouts();
+    no_job();
+    no_output();
+    lines_in_words();
+    findings_in_words();
+    refusals_in_words();
+    words_fit();
+    words_are_cut_off();
+    no_such_number();
+    return troubles != 0;
+}

@@ -1,0 +1,78 @@
+/*
+ * leverbonnet_words.h - what the proved library writes, taken apart and in words.
+ *
+ * For a program in C or C++; c/leverbonnet_words.c is compiled into it. The names
+ * and sentences are those of the Rust package and of `leverbonnet sheet --words`.
+ *
+ * Every function may be called from any thread, and from several at once.
+ */
+
+#ifndef LEVERBONNET_WORDS_H
+#define LEVERBONNET_WORDS_H
+
+#include "leverbonnet.h"
+
+#ifdef __cplusplus
+extern "C" {
+#endif
+
+/* A line of a reduced run: its number, 1 to 20, whether it is present, and its
+ * value in the unit of docs/RULES.md, 0 if it is absent. */
+typedef struct {
+    unsigned number;
+    int present;
+    int64_t value;
+} leverbonnet_line;
+
+/* A finding: its rule, whether it is a fault or else a note, and its place, 0 for
+ * the whole run. */
+typedef struct {
+    unsigned rule;
+    int fault;
+    unsigned place;
+} leverbonnet_finding;
+
+/* The line of that number, 1 to 20, of the 180 bytes that leverbonnet_reduce
+ * wrote. Any other number gives an absent line. */
+leverbonnet_line leverbonnet_line_of(const uint8_t *lines, unsigned number);
+
+/* The finding at that index, counted from 0 and below the number of findings that
+ * leverbonnet_reduce answered, of the bytes that it wrote. */
+leverbonnet_finding leverbonnet_finding_of(const uint8_t *findings, size_t index);
+
+/* The name of a line, the unit that its value is shown in, and with how many
+ * decimals. Of a number that no line has, "" and 0. */
+const char *leverbonnet_line_name(unsigned number);
+const char *leverbonnet_line_unit(unsigned number);
+unsigned leverbonnet_line_decimals(unsigned number);
+
+/* What a rule finds, and what its places count: "point", "segment", "weighing", or
+ * "" where it is about the whole run. Of a number that no rule has, "". */
+const char *leverbonnet_rule_clause(unsigned rule);
+const char *leverbonnet_rule_place(unsigned rule);
+
+/* Why a call is refused. Of a number that no refusal has, "". */
+const char *leverbonnet_refusal_clause(unsigned number);
+
+/* Enough characters for each of the texts below, with the 0 behind them. */
+#define LEVERBONNET_WORDS_MOST 128
+
+/*
+ * Each writes a text and a 0 behind it, cut off where out_len has no room for more,
+ * and answers the length of the whole text, as snprintf does:
+ *
+ *     a line       18    Percent isokinetic  99.80 %
+ *     a finding    Note 11, segment 1: the leak rate is above the allowance.
+ *     a refusal    refusal 5 at byte 167: a field is out of its range
+ *
+ * The refusal is that of an answer whose LEVERBONNET_REFUSAL is not 0.
+ */
+int leverbonnet_line_words(leverbonnet_line line, char *out, size_t out_len);
+int leverbonnet_finding_words(leverbonnet_finding finding, char *out, size_t out_len);
+int leverbonnet_refusal_words(uint64_t answer, char *out, size_t out_len);
+
+#ifdef __cplusplus
+}
+#endif
+
+#endif
