@@ -79,7 +79,7 @@ static const struct {
     {4, "a count is out of its range"},
     {5, "a field is out of its range"},
     {6, "a certificate repeats an earlier one, or a run's number is not above that of the run before"},
-    {7, "the points last over 36,000 seconds, or the segments not as long as the points"},
+    {7, "the points last over 36,000 seconds, or points and segments do not last the same time"},
     {8, "bytes are left over behind the last run"},
     {9, "a lent output is too short"},
     {10, "the job has no run of that number"},

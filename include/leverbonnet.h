@@ -30,8 +30,8 @@
  *      6  a certificate repeats an earlier one, or a
  *         run's number is not above that of the run
  *         before                                         place: the record
- *      7  the points last over 36,000 seconds, or the
- *         segments not as long as the points             place: the run
+ *      7  the points last over 36,000 seconds, or points
+ *         and segments do not last the same time         place: the run
  *      8  bytes are left over behind the last run        place: first of them
  *      9  a lent output is too short                     place: 0
  *     10  the job has no such run                        place: 0
