@@ -104,7 +104,8 @@ static void lines_in_words(void)
     line_must_read(19, 1, INT64_MIN, "19                 Catch  -922337203685477580.8 mg");
     line_must_read(20, 1, 0, "20         Concentration  0.00000 gr/dscf");
     line_must_read(20, 0, 0, "20         Concentration  absent");
-    line_must_read(21, 0, 0, "21                        absent");
+    line_must_read(21, 0, 0, "21          no such line  absent");
+    line_must_read(21, 1, 5, "21          no such line  5");
 }
 
 static void finding_must_read(unsigned rule, int fault, unsigned place, const char *expected)
@@ -123,7 +124,7 @@ static void findings_in_words(void)
     finding_must_read(11, 0, 1, "Note 11, segment 1: the leak rate is above the allowance.");
     finding_must_read(17, 1, 8, "Fault 17, weighing 8: the two final weights differ by more than 0.5 mg.");
     finding_must_read(18, 1, 0, "Fault 18: no filter was weighed.");
-    finding_must_read(255, 1, 0, "Fault 255: .");
+    finding_must_read(255, 1, 3, "Fault 255, place 3: no rule has that number.");
 }
 
 static void refusal_must_read(uint64_t answer, const char *expected)
@@ -137,7 +138,7 @@ static void refusals_in_words(void)
 {
     refusal_must_read(REFUSED(5, 167), "refusal 5 at byte 167: a field is out of its range");
     refusal_must_read(REFUSED(9, 0), "refusal 9: a lent output is too short");
-    refusal_must_read(REFUSED(99, 0), "refusal 99: ");
+    refusal_must_read(REFUSED(99, 0), "refusal 99: no refusal has that number");
 }
 
 /* Whatever the number, the texts fit the room that is said to be enough. */
@@ -167,9 +168,10 @@ static void no_such_number(void)
 {
     uint8_t lines[LEVERBONNET_LINES_BYTES] = {1};
     MUST(!leverbonnet_line_of(lines, 0).present && !leverbonnet_line_of(lines, 21).present);
-    MUST(leverbonnet_line_name(0)[0] == 0 && leverbonnet_line_unit(21)[0] == 0 && leverbonnet_line_decimals(21) == 0);
-    MUST(leverbonnet_rule_clause(0)[0] == 0 && leverbonnet_rule_place(21)[0] == 0);
-    MUST(leverbonnet_refusal_clause(0)[0] == 0 && leverbonnet_refusal_clause(12)[0] == 0);
+    MUST(strcmp(leverbonnet_line_name(0), "no such line") == 0);
+    MUST(leverbonnet_line_unit(21)[0] == 0 && leverbonnet_line_decimals(21) == 0);
+    MUST(strcmp(leverbonnet_rule_clause(0), "no rule has that number") == 0 && leverbonnet_rule_place(21)[0] == 0);
+    MUST(strcmp(leverbonnet_refusal_clause(12), "no refusal has that number") == 0);
 }
 
 int main(void)

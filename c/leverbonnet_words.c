@@ -95,7 +95,7 @@ static int is_line(unsigned number)
 
 const char *leverbonnet_line_name(unsigned number)
 {
-    return is_line(number) ? line_texts[number - 1].name : "";
+    return is_line(number) ? line_texts[number - 1].name : "no such line";
 }
 
 const char *leverbonnet_line_unit(unsigned number)
@@ -114,7 +114,7 @@ const char *leverbonnet_rule_clause(unsigned rule)
     for (k = 0; k < ROWS(rule_texts); k++)
         if (rule_texts[k].rule == rule)
             return rule_texts[k].clause;
-    return "";
+    return "no rule has that number";
 }
 
 const char *leverbonnet_rule_place(unsigned rule)
@@ -132,7 +132,7 @@ const char *leverbonnet_refusal_clause(unsigned number)
     for (k = 0; k < ROWS(refusal_texts); k++)
         if (refusal_texts[k].number == number)
             return refusal_texts[k].clause;
-    return "";
+    return "no refusal has that number";
 }
 
 /* The number in `width` bytes, the lowest first. */
@@ -183,20 +183,22 @@ static void put_amount(int64_t value, unsigned decimals, char amount[24])
 int leverbonnet_line_words(leverbonnet_line line, char *out, size_t out_len)
 {
     const char *name = leverbonnet_line_name(line.number);
+    const char *unit = leverbonnet_line_unit(line.number);
     char amount[24];
     if (!line.present)
         return snprintf(out, out_len, "%2u  %20s  absent", line.number, name);
     put_amount(line.value, leverbonnet_line_decimals(line.number), amount);
-    return snprintf(out, out_len, "%2u  %20s  %s %s", line.number, name, amount, leverbonnet_line_unit(line.number));
+    return snprintf(out, out_len, "%2u  %20s  %s%s%s", line.number, name, amount, unit[0] ? " " : "", unit);
 }
 
 int leverbonnet_finding_words(leverbonnet_finding finding, char *out, size_t out_len)
 {
     const char *class_name = finding.fault ? "Fault" : "Note";
     const char *clause = leverbonnet_rule_clause(finding.rule);
+    const char *place = leverbonnet_rule_place(finding.rule);
     if (finding.place == 0)
         return snprintf(out, out_len, "%s %u: %s.", class_name, finding.rule, clause);
-    return snprintf(out, out_len, "%s %u, %s %u: %s.", class_name, finding.rule, leverbonnet_rule_place(finding.rule),
+    return snprintf(out, out_len, "%s %u, %s %u: %s.", class_name, finding.rule, place[0] ? place : "place",
                     finding.place, clause);
 }
 

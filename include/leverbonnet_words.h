@@ -41,17 +41,19 @@ leverbonnet_line leverbonnet_line_of(const uint8_t *lines, unsigned number);
 leverbonnet_finding leverbonnet_finding_of(const uint8_t *findings, size_t index);
 
 /* The name of a line, the unit that its value is shown in, and with how many
- * decimals. Of a number that no line has, "" and 0. */
+ * decimals. Of a number that no line has, "no such line", "" and 0. */
 const char *leverbonnet_line_name(unsigned number);
 const char *leverbonnet_line_unit(unsigned number);
 unsigned leverbonnet_line_decimals(unsigned number);
 
 /* What a rule finds, and what its places count: "point", "segment", "weighing", or
- * "" where it is about the whole run. Of a number that no rule has, "". */
+ * "" where it is about the whole run. Of a number that no rule has, "no rule has
+ * that number" and "". */
 const char *leverbonnet_rule_clause(unsigned rule);
 const char *leverbonnet_rule_place(unsigned rule);
 
-/* Why a call is refused. Of a number that no refusal has, "". */
+/* Why a call is refused. Of a number that no refusal has, "no refusal has that
+ * number". */
 const char *leverbonnet_refusal_clause(unsigned number);
 
 /* Enough characters for each of the texts below, with the 0 behind them. */
