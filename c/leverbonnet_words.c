@@ -10,7 +10,7 @@
 #include <stdio.h>
 
 /* The first last_refusal_of_file refusals are about a byte of the job. */
-enum { line_count = 20, last_refusal_of_file = 8, fault_class = 1 };
+enum { line_count = 20, last_refusal_of_file = 8, note_class = 2 };
 
 /* Line 1 first: its name, its unit, its decimals. */
 static const struct {
@@ -160,7 +160,7 @@ leverbonnet_finding leverbonnet_finding_of(const uint8_t *findings, size_t index
     const uint8_t *bytes = findings + index * LEVERBONNET_FINDING_BYTES;
     leverbonnet_finding finding;
     finding.rule = bytes[0];
-    finding.fault = bytes[1] == fault_class;
+    finding.fault = bytes[1] != note_class;
     finding.place = (unsigned)number_of(bytes + 2, LEVERBONNET_FINDING_BYTES - 2);
     return finding;
 }
