@@ -18,17 +18,24 @@
 //! they wait for each other, since a process has one pipe for all of them.
 
 mod error;
+mod finding;
+mod line;
 #[cfg(all(target_arch = "x86_64", not(feature = "piped")))]
 pub mod linked;
 mod outputs;
 pub mod pipe;
+mod reduced;
 mod refusal;
+pub mod texts;
 mod typed;
 mod way;
 
 pub use error::Error;
-pub use outputs::{LINE_COUNT, MOST_TEXT};
-pub use refusal::Refusal;
-pub use typed::{
-    rect_distances, reduce_run, round_distances, run_numbers, sheet_text, Class, Finding, Reduced,
+pub use finding::{Class, Finding};
+pub use line::Line;
+pub use outputs::{
+    FINDING_LENGTH, LINES_LENGTH, LINE_COUNT, LINE_LENGTH, MOST_FINDINGS, MOST_TEXT,
 };
+pub use reduced::Reduced;
+pub use refusal::Refusal;
+pub use typed::{rect_distances, reduce_run, round_distances, run_numbers, sheet_text};
