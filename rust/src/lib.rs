@@ -18,6 +18,7 @@
 //! they wait for each other, since a process has one pipe for all of them.
 
 mod error;
+pub mod field;
 mod finding;
 mod line;
 #[cfg(all(target_arch = "x86_64", not(feature = "piped")))]

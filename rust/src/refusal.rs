@@ -2,6 +2,7 @@
 
 use std::fmt;
 
+use crate::field;
 use crate::texts;
 
 /// A refusal's number, 1 to 11, and its place in the job.
@@ -15,6 +16,24 @@ impl Refusal {
     /// Why it was given, as a clause to stand after a colon.
     pub fn cause(&self) -> &'static str {
         texts::refusal(self.number).map_or(texts::NO_REFUSAL, |text| text.clause)
+    }
+
+    /// What is wrong with the job that it was given for and where, as a clause: the
+    /// record, the field, its value and its range, or the seconds. It is the
+    /// [cause](Refusal::cause) where there is no more to say, and where it was given
+    /// for another job.
+    ///
+    /// ```
+    /// use leverbonnet::Refusal;
+    ///
+    /// let refusal = Refusal { number: 4, place: 7 };
+    /// assert_eq!(
+    ///     refusal.in_job(b"SRJ\x01\0\0\0\0\0"),
+    ///     "the number of runs is 0 and not in its range, 1 to 16"
+    /// );
+    /// ```
+    pub fn in_job(&self, job: &[u8]) -> String {
+        field::clause(self, job).unwrap_or_else(|| self.cause().into())
     }
 
     /// Whether its place is a byte of the job: 9, 10 and 11 are about no byte.
