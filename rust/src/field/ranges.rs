@@ -70,8 +70,8 @@ fn in_unit(field: &Field) -> String {
     }
 }
 
-/// Whether the field is in its range, as far as the range's own words tell: where
-/// they speak of more than numbers, the proved call is believed.
+/// Whether the field is in its range. Where the range speaks of more than numbers
+/// the proved call is believed that it is not.
 fn is_in_range(field: &Field, bytes: &[u8]) -> bool {
     match (field.range, field.holds.number(bytes)) {
         ("", _) => true,
@@ -81,8 +81,11 @@ fn is_in_range(field: &Field, bytes: &[u8]) -> bool {
     }
 }
 
-/// A range that is one number or two.
+/// The numbers of a range, where it speaks of nothing else.
 fn numbers(range: &str) -> Option<RangeInclusive<i64>> {
+    if let Some(least) = range.strip_suffix(" or more") {
+        return Some(without_commas(least)?..=i64::MAX);
+    }
     let (least, greatest) = range.split_once(" to ").unwrap_or((range, range));
     Some(without_commas(least)?..=without_commas(greatest)?)
 }

@@ -26,7 +26,9 @@ struct Ended;
 impl<'a> Walk<'a> {
     fn job(&mut self) -> Result<(), Ended> {
         let header = self.next(Which::Header)?;
-        self.several(&header, "number of certificates", Which::Certificate)?;
+        for index in 1..=count(&header, "number of certificates") {
+            self.next(Which::Certificate(index))?;
+        }
         for run in 1..=count(&header, "number of runs") {
             self.run(run)?;
         }
@@ -35,24 +37,14 @@ impl<'a> Walk<'a> {
 
     fn run(&mut self, run: usize) -> Result<(), Ended> {
         let head = self.next(Which::Run(run))?;
-        self.several(&head, "number of points", |index| Which::Point(run, index))?;
-        self.several(&head, "number of segments", |index| {
-            Which::Segment(run, index)
-        })?;
-        self.several(&head, "number of weighings", |index| {
-            Which::Weighing(run, index)
-        })
-    }
-
-    /// As many records as that field of their head says.
-    fn several(
-        &mut self,
-        head: &Part,
-        field: &str,
-        which: impl Fn(usize) -> Which,
-    ) -> Result<(), Ended> {
-        for index in 1..=count(head, field) {
-            self.next(which(index))?;
+        for index in 1..=count(&head, "number of points") {
+            self.next(Which::Point(run, index))?;
+        }
+        for index in 1..=count(&head, "number of segments") {
+            self.next(Which::Segment(run, index))?;
+        }
+        for index in 1..=count(&head, "number of weighings") {
+            self.next(Which::Weighing(run, index))?;
         }
         Ok(())
     }
