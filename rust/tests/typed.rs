@@ -4,7 +4,8 @@
 use std::thread;
 
 use leverbonnet::{
-    rect_distances, reduce_run, round_distances, run_numbers, Class, Error, Finding, Line, Refusal,
+    rect_distances, reduce_run, round_distances, run_numbers, Class, Error, Finding, Line, Reduced,
+    Refusal,
 };
 
 const WORKED: &[u8] = include_bytes!("../../examples/worked.job");
@@ -94,4 +95,14 @@ fn threads_that_call_at_once_get_their_own_answers() {
         let (points, distances) = caller.join().unwrap();
         assert_eq!(distances.unwrap().len(), usize::from(points));
     }
+}
+
+#[test]
+fn every_type_may_be_sent_and_shared() {
+    fn assert<T: Send + Sync>() {}
+    assert::<Error>();
+    assert::<Reduced>();
+    assert::<leverbonnet::field::Record>();
+    assert::<leverbonnet::texts::RuleText>();
+    assert::<leverbonnet::pipe::Pipe>();
 }
