@@ -29,19 +29,22 @@ pub(crate) fn clause(refusal: &Refusal, job: &[u8]) -> Option<String> {
         1 if place == job.len() => incomplete(parts.last()?),
         2..=5 => {
             let part = parts.iter().rfind(|part| part.start <= place)?;
-            let at = place - part.start;
-            ranges::out_of_range(part, at, refusal.number)
+            ranges::out_of_range(part, place - part.start, refusal.number)
         }
-        6 | 7 => {
-            let index = parts.iter().position(|part| part.start == place)?;
-            let (before, from) = parts.split_at(index);
-            match refusal.number {
-                6 => order::repeated(before, from.first()?),
-                _ => seconds::total(from),
-            }
+        6 => {
+            let index = starting_at(&parts, place)?;
+            order::repeated(&parts[..index], &parts[index])
+        }
+        7 => {
+            let index = starting_at(&parts, place)?;
+            seconds::not_in_order(&parts[index], &parts[index + 1..])
         }
         _ => None,
     }
+}
+
+fn starting_at(parts: &[Part], place: usize) -> Option<usize> {
+    parts.iter().position(|part| part.start == place)
 }
 
 fn incomplete(part: &Part) -> Option<String> {

@@ -6,22 +6,18 @@ use super::part::{Part, Which};
 /// The most seconds that a run's points may last.
 const MOST: i64 = 36_000;
 
-/// The clause for the run that is the first of these parts.
-pub fn total(parts: &[Part]) -> Option<String> {
-    let (run, name) = match parts.first()?.which {
-        Which::Run(run) => (run, Which::Run(run).name()),
-        _ => return None,
-    };
-    let points = added_up(
-        parts,
-        |which| matches!(which, Which::Point(of, _) if of == run),
-    )?;
-    let segments = added_up(
-        parts,
-        |which| matches!(which, Which::Segment(of, _) if of == run),
-    )?;
-    let (shown, most) = (with_commas(points), with_commas(MOST));
+/// The clause for a run and the parts behind it.
+pub fn not_in_order(run: &Part, behind: &[Part]) -> Option<String> {
+    let is_run = |part: &Part| matches!(part.which, Which::Run(_));
+    if !is_run(run) {
+        return None;
+    }
+    let own = || behind.iter().take_while(|part| !is_run(part));
+    let points = added_up(own().filter(|part| matches!(part.which, Which::Point(..))))?;
+    let segments = added_up(own().filter(|part| matches!(part.which, Which::Segment(..))))?;
+    let (name, shown) = (run.which.name(), with_commas(points));
     if points > MOST {
+        let most = with_commas(MOST);
         Some(format!(
             "the points of {name} last {shown} seconds, over {most}"
         ))
@@ -35,8 +31,7 @@ pub fn total(parts: &[Part]) -> Option<String> {
     }
 }
 
-/// The seconds of those parts, if they are all complete.
-fn added_up(parts: &[Part], counts: impl Fn(Which) -> bool) -> Option<i64> {
-    let counted = parts.iter().filter(|part| counts(part.which));
-    counted.map(|part| part.number("seconds")).sum()
+/// The seconds of these parts, if they are all complete.
+fn added_up<'a>(parts: impl Iterator<Item = &'a Part<'a>>) -> Option<i64> {
+    parts.map(|part| part.number("seconds")).sum()
 }
