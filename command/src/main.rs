@@ -27,7 +27,7 @@ fn main() -> ExitCode {
 
 fn done(work: Work) -> Status {
     match work {
-        Work::Sheet(sources) => sheet::printed(&sources),
+        Work::Sheet(sheet) => sheet::printed(&sheet),
         Work::Layout(layout) => layout::printed(&layout),
         Work::Install(folder) => install::installed(folder.as_ref()),
     }

@@ -7,6 +7,12 @@ pub fn refused(refusal: &Refusal) -> String {
     format!("REFUSED {} {}\n", refusal.number, refusal.place)
 }
 
+/// What is wrong with a refused job and where, as the end of a sentence.
+pub fn in_job(refusal: &Refusal, job: &[u8]) -> String {
+    let (number, place) = (refusal.number, refusal.place);
+    format!("{} ({number} at byte {place}).", refusal.in_job(job))
+}
+
 /// A sentence for calls that were not made.
 pub fn unreached(why: &str) -> String {
     format!("the proved calls can not be reached: {why}.")

@@ -1,34 +1,72 @@
-//! Safe Rust calls on the proved library, by one of two ways:
+//! Safe Rust calls on the proved library, over Rust types:
+//!
+//! | Call | Gives |
+//! |---|---|
+//! | [`run_numbers`] | the numbers of a job's runs |
+//! | [`reduce_run`] | a run's twenty lines, its findings, and whether it stands |
+//! | [`sheet_text`] | the plain sheets of a whole job |
+//! | [`round_distances`], [`rect_distances`] | a traverse layout |
+//!
+//! Each gives what succeeded, or an [`Error`]: the library's [`Refusal`], or why it
+//! was not reached.
+//!
+//! [`Reduced`], [`Line`], [`Finding`] and [`Refusal`] display themselves in words,
+//! and [`Refusal::in_job`] names the field that a job is refused for. All names and
+//! sentences stand in [`texts`], the fields of a job file in [`field`].
+//! `examples/runs.rs` is a whole program over all runs of a job.
+//!
+//! ```no_run
+//! # fn main() -> Result<(), Box<dyn std::error::Error>> {
+//! let job = std::fs::read("examples/worked.job")?;
+//! for number in leverbonnet::run_numbers(&job)? {
+//!     println!("{}", leverbonnet::reduce_run(&job, number)?);
+//! }
+//! # Ok(())
+//! # }
+//! ```
+//!
+//! # The two ways to the library
 //!
 //! - `linked`: the library's archive is part of the program. The archive is for
 //!   x86-64, and the module `linked` is there only where it can be linked.
 //! - [`pipe`]: the program `calls` makes the same proved calls and is asked over a
 //!   pipe. This can be done on every processor, under an emulator where it must be.
 //!
-//! Both lend slices and answer the library's own word: the high 32 bits hold a
-//! refusal's number (0 for success), the low 32 bits its place or what succeeded.
-//! Success leaves the bytes beyond an output as they were, and a refusal changes
-//! none.
+//! The typed calls are linked where that can be; elsewhere, and with the feature
+//! `piped` on x86-64 too, they go over the pipe.
 //!
-//! The typed calls here, such as [`reduce_run`], lend buffers of their own and
-//! take the word apart. They are linked where that can be; elsewhere, and with
-//! the feature `piped` on x86-64 too, they go over the pipe.
+//! The calls of both modules lend slices and answer the library's own word: the
+//! high 32 bits hold a refusal's number (0 for success), the low 32 bits its place
+//! or what succeeded. Success leaves the bytes beyond an output as they were, and a
+//! refusal changes none. [`Line::from_bytes`] and [`Finding::from_bytes`] read what
+//! `reduce` writes.
+//!
+//! # Threads
 //!
 //! Every call may be made from any thread, and from several at once. Over the pipe
-//! they wait for each other, since a process has one pipe for all of them.
+//! they wait for each other, since a process has one pipe for all of them. What is
+//! said in words needs no call, and every type here may be sent and shared.
 
 mod error;
+pub mod field;
+mod finding;
+mod line;
 #[cfg(all(target_arch = "x86_64", not(feature = "piped")))]
 pub mod linked;
 mod outputs;
 pub mod pipe;
+mod reduced;
 mod refusal;
+pub mod texts;
 mod typed;
 mod way;
 
 pub use error::Error;
-pub use outputs::{LINE_COUNT, MOST_TEXT};
-pub use refusal::Refusal;
-pub use typed::{
-    rect_distances, reduce_run, round_distances, run_numbers, sheet_text, Class, Finding, Reduced,
+pub use finding::{Class, Finding};
+pub use line::Line;
+pub use outputs::{
+    FINDING_LENGTH, LINES_LENGTH, LINE_COUNT, LINE_LENGTH, MOST_FINDINGS, MOST_TEXT,
 };
+pub use reduced::Reduced;
+pub use refusal::Refusal;
+pub use typed::{rect_distances, reduce_run, round_distances, run_numbers, sheet_text};

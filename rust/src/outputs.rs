@@ -1,6 +1,9 @@
 //! What the calls write: how long it is, and the most that it can be.
 
+/// The lines of a sheet.
 pub const LINE_COUNT: usize = 20;
+
+/// Bytes of one line, of all lines, of a finding and of a layout's distance.
 pub const LINE_LENGTH: usize = 9;
 pub const LINES_LENGTH: usize = LINE_COUNT * LINE_LENGTH;
 pub const FINDING_LENGTH: usize = 4;

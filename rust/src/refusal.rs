@@ -2,6 +2,9 @@
 
 use std::fmt;
 
+use crate::field;
+use crate::texts;
+
 /// A refusal's number, 1 to 11, and its place in the job.
 #[derive(Clone, Copy, Debug, PartialEq, Eq)]
 pub struct Refusal {
@@ -12,25 +15,25 @@ pub struct Refusal {
 impl Refusal {
     /// Why it was given, as a clause to stand after a colon.
     pub fn cause(&self) -> &'static str {
-        match self.number {
-            1 => "the file ends before its header or a record is complete",
-            2 => "the mark is not SRJ",
-            3 => "the version is not 1",
-            4 => "a count is out of its range",
-            5 => "a field is out of its range",
-            6 => {
-                "a certificate repeats an earlier one, or a run number is not above the one before"
-            }
-            7 => {
-                "the points last over 36,000 seconds, or the segments do not last as long as the \
-                 points"
-            }
-            8 => "bytes are left over after the last run",
-            9 => "a lent output is too short",
-            10 => "the job has no run of that number",
-            11 => "the layout is outside its ranges",
-            _ => "no refusal has that number",
-        }
+        texts::refusal(self.number).map_or(texts::NO_REFUSAL, |text| text.clause)
+    }
+
+    /// What is wrong with the job that it was given for and where, as a clause: the
+    /// record, the field, its value and its range, or the seconds. It is the
+    /// [cause](Refusal::cause) where there is no more to say, and where it was given
+    /// for another job.
+    ///
+    /// ```
+    /// use leverbonnet::Refusal;
+    ///
+    /// let refusal = Refusal { number: 4, place: 7 };
+    /// assert_eq!(
+    ///     refusal.in_job(b"SRJ\x01\0\0\0\0\0"),
+    ///     "the number of runs is 0 and not in its range, 1 to 16"
+    /// );
+    /// ```
+    pub fn in_job(&self, job: &[u8]) -> String {
+        field::clause(self, job).unwrap_or_else(|| self.cause().into())
     }
 
     /// Whether its place is a byte of the job: 9, 10 and 11 are about no byte.

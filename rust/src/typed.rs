@@ -1,33 +1,14 @@
 //! The calls over Rust types: what succeeded, or why nothing did.
 
 use crate::error::Error;
+use crate::finding::Finding;
+use crate::line::Line;
 use crate::outputs::{
     ACCEPTED, DISTANCE_LENGTH, FINDING_LENGTH, LINES_LENGTH, LINE_COUNT, LINE_LENGTH,
     MOST_FINDINGS, MOST_RECTANGULAR, MOST_ROUND, MOST_TEXT,
 };
+use crate::reduced::Reduced;
 use crate::way::{calls, Answer};
-
-#[derive(Clone, Copy, Debug, PartialEq, Eq)]
-pub enum Class {
-    Fault,
-    Note,
-}
-
-/// A rule found broken or noted; place 0 is the whole run.
-#[derive(Clone, Copy, Debug, PartialEq, Eq)]
-pub struct Finding {
-    pub rule: u8,
-    pub class: Class,
-    pub place: u16,
-}
-
-/// One run's sheet; an absent line is `None`.
-#[derive(Clone, Debug, PartialEq, Eq)]
-pub struct Reduced {
-    pub accepted: bool,
-    pub lines: [Option<i64>; LINE_COUNT],
-    pub findings: Vec<Finding>,
-}
 
 /// Works the run of that number.
 pub fn reduce_run(job: &[u8], number: u16) -> Result<Reduced, Error> {
@@ -36,6 +17,7 @@ pub fn reduce_run(job: &[u8], number: u16) -> Result<Reduced, Error> {
     let value = calls::reduce(job, number, &mut lines, &mut findings).value()?;
     let count = (value % ACCEPTED) as usize;
     Ok(Reduced {
+        number,
         accepted: value >= ACCEPTED,
         lines: lines_from(&lines),
         findings: findings_from(&findings[..count * FINDING_LENGTH]),
@@ -76,26 +58,17 @@ pub fn sheet_text(job: &[u8]) -> Result<Vec<u8>, Error> {
     Ok(out)
 }
 
-fn lines_from(bytes: &[u8; LINES_LENGTH]) -> [Option<i64>; LINE_COUNT] {
-    std::array::from_fn(|k| {
-        let line = &bytes[k * LINE_LENGTH..][..LINE_LENGTH];
-        let value = i64::from_le_bytes(std::array::from_fn(|i| line[1 + i]));
-        (line[0] == 1).then_some(value)
+fn lines_from(bytes: &[u8; LINES_LENGTH]) -> [Line; LINE_COUNT] {
+    std::array::from_fn(|index| {
+        let line = std::array::from_fn(|k| bytes[index * LINE_LENGTH + k]);
+        Line::from_bytes(index as u8 + 1, &line)
     })
 }
 
 fn findings_from(bytes: &[u8]) -> Vec<Finding> {
     bytes
         .chunks_exact(FINDING_LENGTH)
-        .map(|finding| Finding {
-            rule: finding[0],
-            class: if finding[1] == 1 {
-                Class::Fault
-            } else {
-                Class::Note
-            },
-            place: u16::from_le_bytes([finding[2], finding[3]]),
-        })
+        .map(|four| Finding::from_bytes(&[four[0], four[1], four[2], four[3]]))
         .collect()
 }
 

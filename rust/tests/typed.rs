@@ -4,7 +4,8 @@
 use std::thread;
 
 use leverbonnet::{
-    rect_distances, reduce_run, round_distances, run_numbers, Class, Error, Finding, Refusal,
+    rect_distances, reduce_run, round_distances, run_numbers, Class, Error, Finding, Line, Reduced,
+    Refusal,
 };
 
 const WORKED: &[u8] = include_bytes!("../../examples/worked.job");
@@ -18,8 +19,11 @@ fn the_worked_run() {
         3600, 40000, 39400, 301471, 5400, 38801, 4707, 10819, 30160, 28844, 299500, 6600, 7071,
         8741, 44385, 34089, 90604, 9980, 1056, 4199,
     ];
-    assert!(reduced.accepted);
-    assert_eq!(reduced.lines, lines.map(Some));
+    assert_eq!((reduced.number, reduced.accepted), (7, true));
+    for (index, line) in reduced.lines.iter().enumerate() {
+        let (number, value) = (index as u8 + 1, Some(lines[index]));
+        assert_eq!(*line, Line { number, value });
+    }
     let note = Finding {
         rule: 11,
         class: Class::Note,
@@ -32,8 +36,14 @@ fn the_worked_run() {
 fn a_void_run_with_absent_lines() {
     // Run 13 caught less than nothing and weighed no rinse.
     let reduced = reduce_run(SEVERAL_RUNS, 13).unwrap();
-    assert!(!reduced.accepted);
-    assert_eq!(reduced.lines[18..], [Some(-24), None]);
+    assert_eq!((reduced.number, reduced.accepted), (13, false));
+    assert_eq!(
+        reduced.lines[18..]
+            .iter()
+            .map(|line| line.value)
+            .collect::<Vec<_>>(),
+        [Some(-24), None]
+    );
     let found = reduced.findings.iter();
     let found: Vec<_> = found.map(|one| (one.rule, one.class, one.place)).collect();
     let fault = Class::Fault;
@@ -85,4 +95,14 @@ fn threads_that_call_at_once_get_their_own_answers() {
         let (points, distances) = caller.join().unwrap();
         assert_eq!(distances.unwrap().len(), usize::from(points));
     }
+}
+
+#[test]
+fn every_type_may_be_sent_and_shared() {
+    fn assert<T: Send + Sync>() {}
+    assert::<Error>();
+    assert::<Reduced>();
+    assert::<leverbonnet::field::Record>();
+    assert::<leverbonnet::texts::RuleText>();
+    assert::<leverbonnet::pipe::Pipe>();
 }

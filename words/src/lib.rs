@@ -23,7 +23,7 @@ use std::ffi::OsString;
 pub use crate::complaint::shown;
 pub use crate::gate::project;
 pub use crate::layout::{Layout, Stack};
-pub use crate::sheet::Source;
+pub use crate::sheet::{Sheet, Source};
 pub use crate::status::Status;
 
 use crate::command::Asked;
@@ -31,7 +31,7 @@ use crate::command::Asked;
 /// What only the proved program can do.
 #[derive(Debug, PartialEq, Eq)]
 pub enum Work {
-    Sheet(Vec<Source>),
+    Sheet(Sheet),
     Layout(Layout),
     /// The folder to put the program in.
     Install(OsString),

@@ -45,7 +45,9 @@ fn a_job_refused_on_standard_input_is_named_so() {
         (refused.out.as_str(), refused.status),
         ("REFUSED 5 167\n", 2)
     );
-    refused.assert_told_one("standard input: refused, a field is out of its range");
+    refused.assert_told_one(
+        "standard input: refused, the stack temperature of point 3 of the 1st run is -401",
+    );
 }
 
 #[test]
@@ -69,32 +71,47 @@ fn an_empty_input_is_a_job_that_ends_early() {
     assert_eq!((refused.out.as_str(), refused.status), ("REFUSED 1 0\n", 2));
 }
 
+/// Asserts that a job asked for by these words of the shell is told so, plain and
+/// in words.
+fn assert_unread(words: &str, sentence: &str) {
+    for way in ["sheet", "sheet --words"] {
+        let line = format!(r#""$1" {way} {words}"#);
+        ended(&mut shell(&line)).assert_one_sentence(1, sentence);
+    }
+}
+
 #[test]
 fn a_folder_is_no_job() {
-    ended(&mut leverbonnet(&["sheet", "examples"]))
-        .assert_one_sentence(1, "examples can not be read: Is a directory.");
-    ended(&mut shell(r#""$1" sheet <examples"#))
-        .assert_one_sentence(1, "standard input can not be read: Is a directory.");
+    assert_unread("examples", "examples can not be read: Is a directory.");
+    assert_unread(
+        "<examples",
+        "standard input can not be read: Is a directory.",
+    );
 }
 
 #[test]
 fn a_read_that_fails_is_no_refusal() {
-    ended(&mut leverbonnet(&["sheet", "/proc/self/mem"]))
-        .assert_one_sentence(1, "/proc/self/mem can not be read: Input/output error.");
-    ended(&mut shell(r#""$1" sheet </proc/self/mem"#))
-        .assert_one_sentence(1, "standard input can not be read: Input/output error.");
+    assert_unread(
+        "/proc/self/mem",
+        "/proc/self/mem can not be read: Input/output error.",
+    );
+    assert_unread(
+        "</proc/self/mem",
+        "standard input can not be read: Input/output error.",
+    );
 }
 
 #[test]
 fn a_closed_input_is_no_empty_job() {
-    ended(&mut shell(r#""$1" sheet <&-"#))
-        .assert_one_sentence(1, "standard input can not be read: It is closed.");
+    assert_unread("<&-", "standard input can not be read: It is closed.");
 }
 
 #[test]
 fn an_input_open_for_writing_only_is_no_empty_job() {
-    ended(&mut shell(r#""$1" sheet 0>/dev/null"#))
-        .assert_one_sentence(1, "standard input can not be read: Bad file descriptor.");
+    assert_unread(
+        "0>/dev/null",
+        "standard input can not be read: Bad file descriptor.",
+    );
 }
 
 #[test]

@@ -5,6 +5,7 @@ mod building;
 mod copy;
 mod drawings;
 mod folder;
+mod in_words;
 mod inputs;
 mod installed;
 mod layouts;

@@ -4,13 +4,16 @@
 use std::fs::{File, OpenOptions};
 use std::process::{Command, Stdio};
 
-use crate::folder::example;
+use crate::folder::{example, example_bytes};
 use crate::run::{ended, leverbonnet, shell, Ended};
 
 /// Everything that prints, with its status where it is written.
-const PRINTING: [(&[&str], i32); 9] = [
+const PRINTING: [(&[&str], i32); 12] = [
     (&["sheet", "examples/worked.job"], 0),
     (&["sheet", "examples/refused.job"], 2),
+    (&["sheet", "--words", "examples/worked.job"], 0),
+    (&["sheet", "--words", "examples/several-runs.job"], 0),
+    (&["sheet", "--words", "examples/refused.job"], 2),
     (&["layout", "round", "6", "240", "250"], 0),
     (&["layout", "round", "6", "240", "250", "--svg"], 0),
     (&["layout", "rect", "10", "400", "300"], 2),
@@ -90,25 +93,27 @@ fn the_null_device_takes_everything_however_it_is_open() {
 
 #[test]
 fn an_output_that_can_not_be_written_stops_the_rest() {
-    let ended = ended(&mut shell(
-        r#""$1" sheet examples/refused.job examples/missing.job >/dev/full"#,
-    ));
-    let told: Vec<&str> = ended.told.lines().collect();
-    assert_eq!((told.len(), ended.status), (2, 1), "{ended:?}");
-    assert!(told[0].starts_with("leverbonnet: examples/refused.job: refused"));
-    assert!(told[1].starts_with("leverbonnet: standard output can not be written"));
+    for way in ["sheet", "sheet --words"] {
+        let ended = ended(&mut shell(&format!(
+            r#""$1" {way} examples/refused.job examples/missing.job >/dev/full"#
+        )));
+        let told: Vec<&str> = ended.told.lines().collect();
+        assert_eq!((told.len(), ended.status), (2, 1), "{ended:?}");
+        assert!(told[0].starts_with("leverbonnet: examples/refused.job: refused"));
+        assert!(told[1].starts_with("leverbonnet: standard output can not be written"));
+    }
 }
 
 #[test]
 fn messages_that_can_not_be_told_change_nothing() {
     for direction in ["2>&-", "2>/dev/full", "2</dev/null"] {
-        let refused = ended(&mut shell(&format!(
-            r#""$1" sheet examples/refused.job {direction}"#
-        )));
-        assert_eq!(
-            (refused.out.as_str(), refused.status),
-            ("REFUSED 5 167\n", 2)
-        );
+        for (way, stored) in [("sheet", "refused.txt"), ("sheet --words", "refused.words")] {
+            let refused = ended(&mut shell(&format!(
+                r#""$1" {way} examples/refused.job {direction}"#
+            )));
+            let stored = example_bytes(stored);
+            assert_eq!((refused.out.as_bytes(), refused.status), (&*stored, 2));
+        }
         let bad = ended(&mut shell(&format!(r#""$1" frob {direction}"#)));
         assert_eq!(bad.status, 1);
     }

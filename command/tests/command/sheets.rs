@@ -15,6 +15,14 @@ fn sheet(files: &[&str]) -> Ended {
     ended(leverbonnet(&["sheet"]).args(files))
 }
 
+/// Plain and in words.
+fn either_way(files: &[&str]) -> [Ended; 2] {
+    [
+        sheet(files),
+        ended(leverbonnet(&["sheet", "--words"]).args(files)),
+    ]
+}
+
 fn stored(name: &str) -> String {
     String::from_utf8(example_bytes(name)).expect("sheets are text")
 }
@@ -47,7 +55,9 @@ fn the_longest_job_is_printed_as_the_independent_program_prints_it() {
 
 #[test]
 fn a_good_job_tells_nothing() {
-    assert_eq!(sheet(&[GOOD]).told, "");
+    for printed in either_way(&[GOOD]) {
+        assert_eq!(printed.told, "");
+    }
 }
 
 #[test]
@@ -100,36 +110,47 @@ fn the_worst_of_all_files_is_the_status() {
         (&[MISSING, REFUSED, GOOD], 1),
         (&[REFUSED, MISSING, GOOD], 1),
     ] {
-        assert_eq!(sheet(files).status, status, "{files:?}");
+        for printed in either_way(files) {
+            assert_eq!(printed.status, status, "{files:?}");
+        }
     }
 }
 
 #[test]
-fn a_refused_file_is_named_with_the_cause() {
-    assert_eq!(
-        sheet(&[REFUSED]).told,
-        "leverbonnet: examples/refused.job: refused, a field is out of its range (5 at byte 167).\n"
-    );
+fn a_refused_file_is_named_with_the_field() {
+    for printed in either_way(&[REFUSED]) {
+        assert_eq!(
+            printed.told,
+            "leverbonnet: examples/refused.job: refused, the stack temperature of point 3 of the \
+             1st run is -401 and not in its range, -400 to 20,000 in 0.1 F (5 at byte 167).\n"
+        );
+    }
 }
 
 #[test]
 fn a_missing_file_is_named_with_the_reason() {
-    sheet(&[MISSING]).assert_one_sentence(
-        1,
-        "examples/missing.job can not be read: No such file or directory.",
-    );
+    for printed in either_way(&[MISSING]) {
+        printed.assert_one_sentence(
+            1,
+            "examples/missing.job can not be read: No such file or directory.",
+        );
+    }
 }
 
 #[test]
 fn each_refused_or_missing_file_gets_one_sentence() {
-    let told = sheet(&[REFUSED, GOOD, MISSING, REFUSED]).told;
-    let named: Vec<bool> = told.lines().map(|line| line.contains(REFUSED)).collect();
-    assert_eq!(named, [true, false, true], "{told}");
+    for printed in either_way(&[REFUSED, GOOD, MISSING, REFUSED]) {
+        let told = printed.told;
+        let named: Vec<bool> = told.lines().map(|line| line.contains(REFUSED)).collect();
+        assert_eq!(named, [true, false, true], "{told}");
+    }
 }
 
 #[test]
 fn a_name_with_a_line_break_keeps_its_sentence_on_one_line() {
-    sheet(&["no\nfile"]).assert_one_sentence(1, "no\\nfile can not be read");
+    for printed in either_way(&["no\nfile"]) {
+        printed.assert_one_sentence(1, "no\\nfile can not be read");
+    }
 }
 
 #[test]

@@ -15,7 +15,19 @@ fn every_complaint_is_one_sentence_and_status_1() {
         (&["frob"][..], "frob is no command: there are sheet, layout"),
         (&["--frob"], "--frob is no command"),
         (&[""], "'' is no command"),
-        (&["sheet", "--frob"], "--frob is no option of sheet"),
+        (
+            &["sheet", "--frob"],
+            "--frob is no option of sheet, which knows --words and --help.",
+        ),
+        (&["sheet", "--words=no"], "--words=no is no option of sheet"),
+        (
+            &["sheet", "--words", "-", "-"],
+            "standard input can be read once",
+        ),
+        (
+            &["layout", "round", "6", "240", "250", "--words"],
+            "--words is no option of layout",
+        ),
         (&["sheet", "examples/worked.job", "-x"], "-x is no option"),
         (&["layout"], "the shape is missing"),
         (&["layout", "round", "x"], "the diameter is missing"),
@@ -85,6 +97,16 @@ fn without_a_word_the_help_lists_them_all() {
     for words in [["--help"], ["-h"], ["help"]] {
         assert_eq!(asked(&words), help);
     }
+}
+
+#[test]
+fn the_help_of_sheets_tells_of_words() {
+    let help = asked(&["sheet", "--words", "--help"]).out;
+    assert!(help.starts_with("leverbonnet sheet [--words] [FILE..]\n"));
+    assert!(
+        help.contains("--words prints each job for a person"),
+        "{help}"
+    );
 }
 
 #[test]

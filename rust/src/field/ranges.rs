@@ -1,0 +1,91 @@
+//! Refusals 2 to 5: a field is out of its range.
+
+use std::ops::RangeInclusive;
+
+use super::numbers::{with_commas, without_commas};
+use super::part::{Part, Which};
+use super::rows::{Field, Instrument, INSTRUMENTS};
+
+/// The clause for the field at that place of the part.
+pub fn out_of_range(part: &Part, at: usize, refusal: u32) -> Option<String> {
+    let row = part.record().field_at(at)?;
+    let (field, subject) = if row.is_by_the_kind() {
+        let instrument = instrument(part)?;
+        let value = instrument.values.iter().find(|value| value.at == at)?;
+        (value, subject_by_the_kind(value, part.which, instrument))
+    } else {
+        (row, subject(row, part.which))
+    };
+    let bytes = part.bytes_of(field)?;
+    if field.refusal() != refusal || is_in_range(field, bytes) {
+        return None;
+    }
+    Some(format!("{subject} {}", predicate(field, bytes)))
+}
+
+/// The instrument that the certificate is of.
+fn instrument(certificate: &Part) -> Option<&'static Instrument> {
+    let kind = certificate.number("kind")?;
+    INSTRUMENTS.iter().find(|one| one.kind == kind)
+}
+
+fn subject_by_the_kind(value: &Field, which: Which, instrument: &Instrument) -> String {
+    let (name, owner) = (value.name, instrument.name);
+    format!("the {name} of {}, a {owner}'s,", which.name())
+}
+
+fn subject(field: &Field, which: Which) -> String {
+    let name = field.name;
+    match which {
+        Which::Header => format!("the {name}"),
+        // The comma ends what the first one begins.
+        _ if name.contains(',') => format!("the {name}, of {}", which.name()),
+        _ => format!("the {name} of {}", which.name()),
+    }
+}
+
+fn predicate(field: &Field, bytes: &[u8]) -> String {
+    let (is, its) = match field.name {
+        "seconds" => ("are", "their"),
+        _ => ("is", "its"),
+    };
+    let not = match field.holds.number(bytes) {
+        Some(number) => format!("{} and not", with_commas(number)),
+        None => "not".into(),
+    };
+    let range = field.range;
+    if range.contains(' ') {
+        format!("{is} {not} in {its} range, {range}{}", in_unit(field))
+    } else {
+        format!("{is} {not} {range}")
+    }
+}
+
+fn in_unit(field: &Field) -> String {
+    match field.unit {
+        "" => String::new(),
+        unit if numbers(field.range).is_some() => format!(" in {unit}"),
+        // A range of more words is set off from its unit.
+        unit => format!(", in {unit}"),
+    }
+}
+
+/// Whether the field is in its range. Where the range speaks of more than numbers
+/// the proved call is believed that it is not.
+fn is_in_range(field: &Field, bytes: &[u8]) -> bool {
+    match (field.range, field.holds.number(bytes)) {
+        ("", _) => true,
+        ("A to Z each", _) => bytes.iter().all(u8::is_ascii_uppercase),
+        (letters, None) => bytes == letters.as_bytes(),
+        (range, Some(number)) => numbers(range).map_or(false, |range| range.contains(&number)),
+    }
+}
+
+/// The numbers of a range, where it speaks of nothing else.
+fn numbers(range: &str) -> Option<RangeInclusive<i64>> {
+    if let Some(least) = range.strip_suffix(" or more") {
+        return Some(without_commas(least)?..=i64::MAX);
+    }
+    let (least, greatest) = range.split_once(" to ").unwrap_or((range, range));
+    Some(without_commas(least)?..=without_commas(greatest)?)
+}

@@ -1,0 +1,76 @@
+//! Where each record of a job stands, by the job's own counts.
+
+use super::part::{Part, Which};
+
+/// The records in file order, the last of them incomplete if the job ends within
+/// one. Every record has bytes, so there are no more of them than the job has
+/// bytes, whatever its counts say.
+pub fn parts(job: &[u8]) -> Vec<Part<'_>> {
+    let mut walk = Walk {
+        job,
+        parts: Vec::new(),
+    };
+    // Where the job ends too early, the walk has what there is.
+    let _ = walk.job();
+    walk.parts
+}
+
+struct Walk<'a> {
+    job: &'a [u8],
+    parts: Vec<Part<'a>>,
+}
+
+/// The job ended within a record.
+struct Ended;
+
+impl<'a> Walk<'a> {
+    fn job(&mut self) -> Result<(), Ended> {
+        let header = self.next(Which::Header)?;
+        for index in 1..=count(&header, "number of certificates") {
+            self.next(Which::Certificate(index))?;
+        }
+        for run in 1..=count(&header, "number of runs") {
+            self.run(run)?;
+        }
+        Ok(())
+    }
+
+    fn run(&mut self, run: usize) -> Result<(), Ended> {
+        let head = self.next(Which::Run(run))?;
+        for index in 1..=count(&head, "number of points") {
+            self.next(Which::Point(run, index))?;
+        }
+        for index in 1..=count(&head, "number of segments") {
+            self.next(Which::Segment(run, index))?;
+        }
+        for index in 1..=count(&head, "number of weighings") {
+            self.next(Which::Weighing(run, index))?;
+        }
+        Ok(())
+    }
+
+    fn next(&mut self, which: Which) -> Result<Part<'a>, Ended> {
+        let start = self
+            .parts
+            .last()
+            .map_or(0, |last| last.start + last.bytes.len());
+        let left = &self.job[start..];
+        let length = which.record().length.min(left.len());
+        let part = Part {
+            which,
+            start,
+            bytes: &left[..length],
+        };
+        self.parts.push(part);
+        if part.is_complete() {
+            Ok(part)
+        } else {
+            Err(Ended)
+        }
+    }
+}
+
+fn count(head: &Part, field: &str) -> usize {
+    let count = head.number(field).and_then(|count| count.try_into().ok());
+    count.unwrap_or(0)
+}
