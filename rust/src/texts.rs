@@ -106,7 +106,7 @@ pub const REFUSALS: &[RefusalText] = &[
     a_refusal( 4, "a count is out of its range"),
     a_refusal( 5, "a field is out of its range"),
     a_refusal( 6, "a certificate repeats an earlier one, or a run's number is not above that of the run before"),
-    a_refusal( 7, "the points last over 36,000 seconds, or the segments not as long as the points"),
+    a_refusal( 7, "the points last over 36,000 seconds, or points and segments do not last the same time"),
     a_refusal( 8, "bytes are left over behind the last run"),
     a_refusal( 9, "a lent output is too short"),
     a_refusal(10, "the job has no run of that number"),

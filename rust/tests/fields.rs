@@ -135,7 +135,7 @@ fn the_examples() {
     assert_eq!(
         told(REFUSED),
         "5 at 167, the stack temperature of point 3 of the 1st run is -401 and not in its range, \
-         -400 to 20,000 in 0.1 F"
+         -400 to 20,000 in units of 0.1 F"
     );
     for job in [WORKED, SEVERAL_RUNS, LONGEST] {
         assert_eq!(told(job), "read");
@@ -149,13 +149,13 @@ fn fields_of_later_records() {
             19 + 16,
             8_999,
             "5 at 35, the factor Y of the 2nd certificate, a meter's, is 8,999 and not in its \
-             range, 9,000 to 11,000 in 1/10,000",
+             range, 9,000 to 11,000 in units of 1/10,000",
         ),
         (
             SECOND_RUN + 29,
             1_001,
             "5 at 346, the carbon dioxide CO2 of the 2nd run is 1,001 and not in its range, 0 to \
-             1,000 in 0.1 percent",
+             1,000 in units of 0.1 percent",
         ),
         (
             SECOND_RUN + 60,
@@ -166,19 +166,19 @@ fn fields_of_later_records() {
             1_651 + 6,
             -401i16 as u16,
             "5 at 1657, the stack temperature of point 12 of the 8th run is -401 and not in its \
-             range, -400 to 20,000 in 0.1 F",
+             range, -400 to 20,000 in units of 0.1 F",
         ),
         (
             1_651 + 8,
             -1_501i16 as u16,
             "5 at 1659, the meter inlet temperature of point 12 of the 8th run is -1,501 and not \
-             in its range, 0 to 1,500 in 0.1 F",
+             in its range, 0 to 1,500 in units of 0.1 F",
         ),
         (
             1_671,
             0,
             "5 at 1671, the seconds of segment 3 of the 8th run are 0 and not in their range, 1 to \
-             36,000 in s",
+             36,000 s",
         ),
         (
             1_881,

@@ -48,7 +48,7 @@ fn the_length_that_suffices_is_the_proved_one_here_and_in_the_header() {
     let theorem = include_str!("../../crates/printing/proofs/Lengths.antt");
     let header = include_str!("../../include/leverbonnet.h");
     let proved = format!("\npub text-most : (s : List ℕ) → length (jobText s) ≤ {MOST_TEXT}\n");
-    let defined = format!("\n#define LEVERBONNET_TEXT_MOST {MOST_TEXT}\n");
+    let defined = format!("\n#define LEVERBONNET_TEXT_BYTES_MOST {MOST_TEXT}\n");
     assert!(theorem.contains(&proved), "{proved}");
     assert!(header.contains(&defined), "{defined}");
 }

@@ -122,7 +122,7 @@ fn a_refused_file_is_named_with_the_field() {
         assert_eq!(
             printed.told,
             "leverbonnet: examples/refused.job: refused, the stack temperature of point 3 of the \
-             1st run is -401 and not in its range, -400 to 20,000 in 0.1 F (5 at byte 167).\n"
+             1st run is -401 and not in its range, -400 to 20,000 in units of 0.1 F (5 at byte 167).\n"
         );
     }
 }

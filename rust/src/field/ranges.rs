@@ -61,12 +61,18 @@ fn predicate(field: &Field, bytes: &[u8]) -> String {
     }
 }
 
+/// The unit behind a range: ` ml`, or what one of it counts, ` in units of 0.1 F`.
 fn in_unit(field: &Field) -> String {
-    match field.unit {
-        "" => String::new(),
-        unit if numbers(field.range).is_some() => format!(" in {unit}"),
+    let unit = field.unit;
+    if unit.is_empty() {
+        String::new()
+    } else if !unit.starts_with(|first: char| first.is_ascii_digit()) {
+        format!(" {unit}")
+    } else if numbers(field.range).is_some() {
+        format!(" in units of {unit}")
+    } else {
         // A range of more words is set off from its unit.
-        unit => format!(", in {unit}"),
+        format!(", in units of {unit}")
     }
 }
 

@@ -113,7 +113,7 @@ pub const RUN: Record = Record {
         row(25, U16,     "barometer Pb",                              "2,000 to 3,200",                 "0.01 in Hg"),
         row(27, I16,     "stack static pressure Pg",                  "-3,000 to 3,000",                "0.01 in water"),
         row(29, U16,     "carbon dioxide CO2",                        "0 to 1,000",                     "0.1 percent"),
-        row(31, U16,     "oxygen O2",                                 "0 to 1,000 less CO2",            "0.1 percent"),
+        row(31, U16,     "oxygen O2",                                 "0 to (1,000 - CO2)",             "0.1 percent"),
         row(33, U32,     "first meter reading",                       "0 to 999,999,999",               "0.001 ft3"),
         row(37, U32,     "last meter reading",                        "the first to 999,999 above it",  "0.001 ft3"),
         row(41, U16,     "water",                                     "0 to 20,000",                    "0.1 ml"),
