@@ -115,9 +115,10 @@ impl<'a> Grid<'a> {
 
     fn sizes(&self) -> Vec<Shape> {
         let (from, to) = (self.place(0.0, 0.0), self.place(self.wide, self.high));
-        let (first, second) = (self.layout.first, self.layout.second);
-        let mut shapes = size::across(from.x, to.x, to.y + SIZE, of_tenths(first));
-        shapes.extend(size::down(from.y, to.y, to.x + SIZE, of_tenths(second)));
+        let first = format!("first side {}", of_tenths(self.layout.first));
+        let second = format!("second side {}", of_tenths(self.layout.second));
+        let mut shapes = size::across(from.x, to.x, to.y + SIZE, first);
+        shapes.extend(size::down(from.y, to.y, to.x + SIZE, second));
         shapes
     }
 

@@ -21,7 +21,7 @@ const FAR: f64 = RIGHT - WALL;
 
 // From the bottom of the page upwards.
 const SIZE: f64 = BOTTOM - size::THICKNESS;
-const NAMES: f64 = SIZE - 10.0;
+const NAMES: f64 = SIZE - 12.0;
 const BAR: f64 = NAMES - 24.0;
 const TICKS: f64 = BAR - 12.0;
 const NUMBERS: f64 = TICKS - 46.0;
@@ -56,7 +56,8 @@ pub fn part(layout: &Layout) -> Part {
         name("far wall").ending(at(RIGHT, NAMES)),
     ];
     shapes.extend(walls());
-    shapes.extend(size::across(ZERO, FAR, SIZE, of_tenths(layout.diameter)));
+    let diameter = format!("diameter {}", of_tenths(layout.diameter));
+    shapes.extend(size::across(ZERO, FAR, SIZE, diameter));
     Part {
         name: "probe",
         shapes,

@@ -18,12 +18,26 @@ const NUMBER: f64 = 8.0;
 const NAME: f64 = 9.0;
 /// From the diameter to the near edge of a number.
 const BESIDE: f64 = 9.0;
+const FAR_BESIDE: f64 = BESIDE + 9.0;
 /// Between texts, and between a text and a line.
 const GAP: f64 = 1.7;
 /// How far the zero wall is marked to both sides of the diameter.
 const HALF_ZERO: f64 = 12.0;
 /// What stands below the wall: port B and its name.
 const BELOW: f64 = PORT + 14.0;
+
+/// The dashed circle is drawn if there is this much between it and the wall.
+const SEEN: f64 = 1.5;
+
+/// Whether the margin is wide enough to be drawn.
+pub fn shows_margin(layout: &Layout) -> bool {
+    margin(layout) >= SEEN
+}
+
+/// Units between the wall and the dashed circle.
+fn margin(layout: &Layout) -> f64 {
+    f64::from(layout.margin()) * scale(layout)
+}
 
 /// The points in the groups that have one mark each.
 pub fn marks(layout: &Layout) -> Vec<Group> {
@@ -42,9 +56,12 @@ pub fn part(layout: &Layout, marks: &[Group], top: f64, bottom: f64) -> Part {
     let section = Section {
         center,
         scale: scale(layout),
-        margin: f64::from(layout.margin()) * scale(layout),
+        margin: margin(layout),
     };
     let mut shapes = section.walls();
+    if shows_margin(layout) {
+        shapes.push(section.dashed_circle());
+    }
     for diameter in [Diameter::A, Diameter::B] {
         shapes.extend(section.diameter(diameter));
         shapes.extend(section.points(diameter, layout.distances, marks));
@@ -64,6 +81,22 @@ enum Diameter {
     B,
 }
 
+impl Diameter {
+    /// How much a text takes along the diameter and across it.
+    fn extent(self, text: &Text) -> (f64, f64) {
+        match self {
+            Diameter::A => (text.length(), text.thickness()),
+            Diameter::B => (text.thickness(), text.length()),
+        }
+    }
+
+    /// Along A joint numbers are so long that they would push their neighbors
+    /// away from their marks.
+    fn has_far_row_for(self, mark: &Mark) -> bool {
+        matches!(self, Diameter::A) && mark.joint
+    }
+}
+
 struct Section {
     center: Place,
     /// Units on the page for 0.001 in.
@@ -77,8 +110,12 @@ impl Section {
         vec![
             circle(self.center, RADIUS + WALL / 2.0, Pen::Wall),
             circle(self.center, RADIUS, Pen::Inside),
-            circle(self.center, RADIUS - self.margin, Pen::Border),
         ]
+    }
+
+    /// How near to the wall a point may stand.
+    fn dashed_circle(&self) -> Shape {
+        circle(self.center, RADIUS - self.margin, Pen::Border)
     }
 
     /// A place so far along a diameter from its zero wall, and so far across
@@ -109,8 +146,16 @@ impl Section {
         let dot = |mark: &Mark| Shape::Dot(self.place(diameter, mark.along, 0.0));
         let mut shapes: Vec<Shape> = marks.iter().map(dot).collect();
         for (side, turn) in [(-1.0, 0), (1.0, 1)] {
-            let marks: Vec<&Mark> = marks.iter().skip(turn).step_by(2).collect();
-            shapes.extend(self.numbers(diameter, side, &marks));
+            let on_side = marks.iter().skip(turn).step_by(2);
+            let (far, near) = on_side.partition(|mark| diameter.has_far_row_for(mark));
+            for (beside, marks) in [(BESIDE, near), (FAR_BESIDE, far)] {
+                let row = Row {
+                    diameter,
+                    side,
+                    beside,
+                };
+                shapes.extend(self.numbers(&row, marks));
+            }
         }
         shapes
     }
@@ -122,34 +167,38 @@ impl Section {
         Mark {
             along: f64::from(sum) / 2.0 * self.scale,
             numbers: group.numbers(),
+            joint: !group.is_single(),
         }
     }
 
-    /// The numbers on one side of a diameter, inside the dashed circle, each
-    /// with a leader from its mark.
-    fn numbers(&self, diameter: Diameter, side: f64, marks: &[&Mark]) -> Vec<Shape> {
-        let extents: Vec<(f64, f64)> = marks.iter().map(|mark| mark.extent(diameter)).collect();
-        let labels: Vec<Label> = marks
+    /// The numbers in a row, inside the dashed circle, each with a leader from
+    /// its mark.
+    fn numbers(&self, row: &Row, marks: Vec<&Mark>) -> Vec<Shape> {
+        let extents: Vec<(f64, f64)> = marks
             .iter()
-            .zip(&extents)
-            .map(|(mark, (along, _))| Label {
-                wanted: mark.along,
-                extent: along + 2.0 * GAP,
-            })
+            .map(|mark| row.diameter.extent(&mark.text()))
             .collect();
+        let label = |(mark, extent): (&&Mark, &(f64, f64))| Label {
+            wanted: mark.along,
+            extent: extent.0 + 2.0 * GAP,
+        };
+        let labels: Vec<Label> = marks.iter().zip(&extents).map(label).collect();
         let across = extents.iter().map(|extent| extent.1).fold(0.0, f64::max);
-        let least = self.least_along(BESIDE + across);
+        let least = self.least_along(row.beside + across);
         let places = spread(&labels, least, 2.0 * RADIUS - least);
         let mut shapes = Vec::new();
         for ((mark, place), (along, across)) in marks.iter().zip(places).zip(extents) {
-            let middle = side * (BESIDE + across / 2.0);
-            shapes.push(mark.text().centered(self.place(diameter, place, middle)));
+            let on_row = |along, across| self.place(row.diameter, along, row.side * across);
             let end = mark.along.max(place - along / 2.0).min(place + along / 2.0);
-            shapes.push(line(
-                self.place(diameter, mark.along, side * DOT),
-                self.place(diameter, end, side * (BESIDE - GAP)),
-                Pen::Leader,
-            ));
+            shapes.extend([
+                mark.text()
+                    .centered(on_row(place, row.beside + across / 2.0)),
+                line(
+                    on_row(mark.along, DOT),
+                    on_row(end, row.beside - GAP),
+                    Pen::Leader,
+                ),
+            ]);
         }
         shapes
     }
@@ -182,19 +231,21 @@ struct Mark {
     /// Units from the zero wall.
     along: f64,
     numbers: String,
+    /// Of more than one point.
+    joint: bool,
 }
 
 impl Mark {
     fn text(&self) -> Text {
         Text::new(self.numbers.clone(), NUMBER).bold()
     }
+}
 
-    /// How much its numbers take along a diameter and across it.
-    fn extent(&self, diameter: Diameter) -> (f64, f64) {
-        let text = self.text();
-        match diameter {
-            Diameter::A => (text.length(), text.thickness()),
-            Diameter::B => (text.thickness(), text.length()),
-        }
-    }
+/// Numbers that stand at one distance from a diameter, on one side of it.
+struct Row {
+    diameter: Diameter,
+    /// 1 below A and to the right of B, -1 on the other side.
+    side: f64,
+    /// From the diameter to the near edges of the numbers.
+    beside: f64,
 }

@@ -1,7 +1,7 @@
 //! What the caption of a round stack says.
 
 use super::groups::{coinciding, Group};
-use super::Layout;
+use super::{section, Layout};
 use crate::drawing::inches::{of_tenths, of_thousandths};
 
 pub fn title(layout: &Layout) -> String {
@@ -15,17 +15,27 @@ pub fn title(layout: &Layout) -> String {
 
 /// The marks are those of the cross-section.
 pub fn sentences(layout: &Layout, marks: &[Group]) -> Vec<String> {
-    let margin = of_thousandths(layout.margin());
     let mut sentences = vec![
         "Distances are in inches from the zero wall, which is the inside of the wall at the port."
             .into(),
-        format!(
-            "The dashed circle is the nearest to the wall that a point may stand, {margin} from it."
-        ),
+        margin(layout),
     ];
     sentences.extend(coincidence(layout.distances));
     sentences.extend(joint_marks(layout.distances, marks));
     sentences
+}
+
+fn margin(layout: &Layout) -> String {
+    let margin = of_thousandths(layout.margin());
+    if section::shows_margin(layout) {
+        format!(
+            "The dashed circle is the nearest to the wall that a point may stand, {margin} from it."
+        )
+    } else {
+        format!(
+            "The nearest to the wall that a point may stand is {margin}: too near to be drawn here."
+        )
+    }
 }
 
 /// Which points have equal distances. Only the margin makes them equal.
