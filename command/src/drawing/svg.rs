@@ -11,6 +11,7 @@ pub fn written(page: &[Part]) -> String {
     format!(
         "<svg xmlns=\"http://www.w3.org/2000/svg\" width=\"{wide}in\" height=\"{high}in\" \
          viewBox=\"0 0 {WIDTH} {HEIGHT}\" font-family=\"monospace\" fill=\"black\">\n\
+         <rect width=\"{WIDTH}\" height=\"{HEIGHT}\" fill=\"white\"/>\n\
          {parts}</svg>\n"
     )
 }

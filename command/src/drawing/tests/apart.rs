@@ -102,8 +102,8 @@ pub fn distance(place: Place, from: Place, to: Place) -> f64 {
     let length = way.x.hypot(way.y);
     let along = ((place.x - from.x) * way.x + (place.y - from.y) * way.y) / (length * length);
     let nearest = at(
-        from.x + way.x * along.max(0.0).min(1.0),
-        from.y + way.y * along.max(0.0).min(1.0),
+        from.x + way.x * along.clamp(0.0, 1.0),
+        from.y + way.y * along.clamp(0.0, 1.0),
     );
     (place.x - nearest.x).hypot(place.y - nearest.y)
 }
