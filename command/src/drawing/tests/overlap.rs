@@ -66,9 +66,6 @@ impl<'a> Sorted<'a> {
             for (other, its_room) in &self.texts[..index] {
                 let clear = room.distance(its_room) > CLEARANCE - LITTLE;
                 let (one, other) = (&text.words, &other.words);
-                // Lines of a sentence stand as close as they are always set.
-                let sentences = one.contains(' ') && other.contains(' ');
-                let clear = clear || (sentences && room.distance(its_room) > 0.0);
                 assert!(clear, "{layout}: {one:?} meets {other:?}");
             }
             for shape in &self.others {
