@@ -1,5 +1,7 @@
 //! A traverse layout as a list, or drawn.
 
+use std::slice;
+
 use leverbonnet::Error;
 use words::{standard, Layout, Stack, Status};
 
@@ -32,7 +34,7 @@ fn text(layout: &Layout) -> Result<String, Error> {
             if layout.drawn {
                 drawing::round(diameter, nozzle, &distances)
             } else {
-                list(distances.iter().map(std::slice::from_ref))
+                list(distances.iter().map(slice::from_ref))
             }
         }
         Stack::Rectangular { first, second } => {

@@ -1,10 +1,9 @@
 //! The lines at the top of a page: what is drawn, and what to know of it.
 
 use super::page::{at, Part, Shape, LEFT, RIGHT, TOP};
-use super::text::{characters, Text};
+use super::text::{characters, Text, NAME};
 
 const TITLE: f64 = 10.0;
-const SENTENCE: f64 = 9.0;
 /// From one line to the next.
 const LINE: f64 = 12.0;
 /// Between the title and the sentences.
@@ -22,7 +21,7 @@ pub fn caption(title: &str, sentences: &[String]) -> Caption {
     let mut column = Column::new();
     column.add(title);
     column.bottom += SPACE;
-    column.add(broken(sentences, SENTENCE));
+    column.add(broken(sentences, NAME));
     Caption {
         bottom: column.bottom,
         part: Part {

@@ -23,6 +23,8 @@ pub const WALL: f64 = 5.0;
 /// far to both sides.
 pub const PORT: f64 = 26.0;
 pub const HALF_PORT: f64 = 6.0;
+/// From a port's stub to its name.
+pub const BESIDE_PORT: f64 = 4.0;
 
 /// Some shapes that belong together, under a name.
 pub struct Part {

@@ -1,7 +1,9 @@
 //! The page of a round stack: caption, cross-section, and the probe with the
 //! distances.
 
+mod diameter;
 mod groups;
+mod marks;
 mod probe;
 mod section;
 mod sentences;
@@ -36,12 +38,12 @@ pub fn page(diameter: u16, nozzle: u16, distances: &[u32]) -> Vec<Part> {
         nozzle,
         distances,
     };
-    let marks = section::marks(&layout);
+    let groups = marks::joined(&layout);
     let caption = caption(
         &sentences::title(&layout),
-        &sentences::sentences(&layout, &marks),
+        &sentences::sentences(&layout, &groups),
     );
-    let section = section::part(&layout, &marks, caption.bottom, probe::TOP);
+    let section = section::part(&layout, &groups, caption.bottom, probe::TOP);
     vec![
         caption.part,
         section,

@@ -13,6 +13,9 @@ const DESCENT: f64 = 0.24;
 const FIGURE_ASCENT: f64 = 0.75;
 const FIGURE_DESCENT: f64 = 0.02;
 
+/// The size of sentences and of names.
+pub const NAME: f64 = 9.0;
+
 pub struct Text {
     pub words: String,
     /// The font's size.

@@ -228,12 +228,12 @@ fn a_drawing_that_is_not_to_scale_says_so() {
         ("rect 49 120 120", "Drawn to scale."),
         (
             "rect 49 61 9999",
-            "Not to scale: compared with the second side, the first is drawn 96 times as long as \
+            "Not to scale: compared with the second side, the first is drawn 95 times as long as \
              it is.",
         ),
         (
             "rect 49 9999 61",
-            "Not to scale: compared with the first side, the second is drawn 140 times as long as \
+            "Not to scale: compared with the first side, the second is drawn 139 times as long as \
              it is.",
         ),
     ] {

@@ -5,19 +5,19 @@ use super::scales::Scales;
 use super::Layout;
 use crate::drawing::inches::of_tenths;
 use crate::drawing::page::{
-    at, line, rectangle, Part, Pen, Place, Shape, BOTTOM, HALF_PORT, LEFT, PORT, RIGHT, TOP, WALL,
+    at, line, rectangle, Part, Pen, Place, Shape, BESIDE_PORT, BOTTOM, HALF_PORT, LEFT, PORT,
+    RIGHT, TOP, WALL,
 };
 use crate::drawing::size;
-use crate::drawing::text::Text;
+use crate::drawing::text::{Text, NAME};
 
-const NAME: f64 = 9.0;
 /// The name of a port is no longer than this.
-const PORT_NAME: f64 = 34.0;
+const PORT_NAME: f64 = 36.0;
 /// A line of text beside the walls.
 const LINE: f64 = 12.0;
 
 /// What stands around the inside of the walls.
-const LEFT_OF: f64 = LINE + PORT_NAME + 6.0 + PORT;
+const LEFT_OF: f64 = LINE + PORT_NAME + BESIDE_PORT + PORT;
 const ABOVE: f64 = WALL + LINE;
 const RIGHT_OF: f64 = SIZE + size::THICKNESS;
 const BELOW: f64 = SIZE + size::THICKNESS;
@@ -139,7 +139,7 @@ impl<'a> Grid<'a> {
                     self.place(0.0, down + HALF_PORT),
                     Pen::Zero,
                 ),
-                name.ending(self.place(-PORT - 4.0, down)),
+                name.ending(self.place(-PORT - BESIDE_PORT, down)),
             ]
         });
         Part {

@@ -4,13 +4,14 @@
 use super::Layout;
 use crate::drawing::inches::{bare, of_tenths};
 use crate::drawing::page::{
-    at, line, rectangle, Part, Pen, Shape, BOTTOM, HALF_PORT, LEFT, PORT, RIGHT, WALL, WIDTH,
+    at, line, rectangle, Part, Pen, Shape, BESIDE_PORT, BOTTOM, HALF_PORT, LEFT, PORT, RIGHT, WALL,
+    WIDTH,
 };
 use crate::drawing::size;
 use crate::drawing::spread::{spread, Label};
-use crate::drawing::text::Text;
+use crate::drawing::text::{Text, NAME};
 
-const NAME: f64 = 9.0;
+/// The size of the numbers and of the distances.
 const LABEL: f64 = 11.0;
 /// Between neighboring labels.
 const GAP: f64 = 4.0;
@@ -51,7 +52,7 @@ pub fn part(layout: &Layout) -> Part {
             at(FAR, BAR + HALF_BAR),
             Pen::Diameter,
         ),
-        name("port").starting(at(LEFT, BAR - HALF_PORT - 8.0)),
+        name("port").starting(at(LEFT, BAR - HALF_PORT - BESIDE_PORT - NAME / 2.0)),
         name("zero wall").starting(at(ZERO, NAMES)),
         name("far wall").ending(at(RIGHT, NAMES)),
     ];

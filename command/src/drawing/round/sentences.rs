@@ -13,15 +13,15 @@ pub fn title(layout: &Layout) -> String {
     )
 }
 
-/// The marks are those of the cross-section.
-pub fn sentences(layout: &Layout, marks: &[Group]) -> Vec<String> {
+/// The groups are those that have one mark each in the cross-section.
+pub fn sentences(layout: &Layout, groups: &[Group]) -> Vec<String> {
     let mut sentences = vec![
         "Distances are in inches from the zero wall, which is the inside of the wall at the port."
             .into(),
         margin(layout),
     ];
     sentences.extend(coincidence(layout.distances));
-    sentences.extend(joint_marks(layout.distances, marks));
+    sentences.extend(joint_marks(layout.distances, groups));
     sentences
 }
 
@@ -55,18 +55,18 @@ fn coincidence(distances: &[u32]) -> Option<String> {
 }
 
 /// Which points share a mark though their distances differ.
-fn joint_marks(distances: &[u32], marks: &[Group]) -> Option<String> {
-    let differ = |mark: &&Group| {
-        let distances = mark.of(distances);
+fn joint_marks(distances: &[u32], groups: &[Group]) -> Option<String> {
+    let differ = |group: &&Group| {
+        let distances = group.of(distances);
         distances.first() != distances.last()
     };
-    let mut joint = marks.iter().filter(differ);
+    let mut joint = groups.iter().filter(differ);
     let first = joint.next()?;
     let mut sentence = capitalized(&first.named());
     sentence += " are drawn as one mark in the cross-section";
-    for mark in joint {
+    for group in joint {
         sentence += ", and so are ";
-        sentence += &mark.named();
+        sentence += &group.named();
     }
     Some(sentence + ".")
 }
