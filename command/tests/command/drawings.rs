@@ -24,9 +24,8 @@ fn round() -> Vec<String> {
     let sizes = [
         "120 100", "120 1000", "240 250", "241 250", "313 1000", "9999 100",
     ];
-    let counts = (2..=24).step_by(2);
-    let all = counts.flat_map(|count| sizes.map(|sizes| format!("round {count} {sizes}")));
-    all.collect()
+    let of_count = |count: u16| sizes.map(|sizes| format!("round {count} {sizes}"));
+    (2..=24).step_by(2).flat_map(of_count).collect()
 }
 
 /// Every grid with several sizes.
@@ -34,9 +33,8 @@ fn rectangular() -> Vec<String> {
     let sizes = [
         "120 120", "400 300", "300 400", "900 300", "61 9999", "9999 61",
     ];
-    let all = GRIDS.iter();
-    let all = all.flat_map(|grid| sizes.map(|sizes| format!("rect {grid} {sizes}")));
-    all.collect()
+    let of_grid = |grid: &u16| sizes.map(|sizes| format!("rect {grid} {sizes}"));
+    GRIDS.iter().flat_map(of_grid).collect()
 }
 
 /// The list's lines as a drawing shows them: number, and distances in inches.
