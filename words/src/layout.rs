@@ -21,8 +21,11 @@ pub(crate) const COMMAND: Command = Command {
     ],
     about: "\
 Each line is a point's number and its distance from the wall in 0.001 in; in a
-rectangular stack, its distances along the first and the second side. --svg
-draws the cross-section in place of the list.
+rectangular stack, its distances along the first and the second side.
+
+--svg draws the layout in place of the list, on a page of 8.5 by 11 in to print
+and tape to the port: ports, zero walls, and every point with its number and its
+distances in inches.
 
 A size is inches with in behind it: 24in, 24.0in, 0.25in. A bare whole number
 is a diameter or a side in 0.1 in and a nozzle in 0.001 in. What was understood
