@@ -42,13 +42,3 @@ fn bytes_past_the_longest_job_do_not_change_the_refusal() {
     job.resize(100_000, 0);
     assert_eq!(printed(&job), b"REFUSED 8 17161\n");
 }
-
-#[test]
-fn the_length_that_suffices_is_the_proved_one_here_and_in_the_header() {
-    let theorem = include_str!("../../crates/printing/proofs/Lengths.antt");
-    let header = include_str!("../../include/leverbonnet.h");
-    let proved = format!("\npub text-most : (s : List ℕ) → length (jobText s) ≤ {MOST_TEXT}\n");
-    let defined = format!("\n#define LEVERBONNET_TEXT_BYTES_MOST {MOST_TEXT}\n");
-    assert!(theorem.contains(&proved), "{proved}");
-    assert!(header.contains(&defined), "{defined}");
-}

@@ -1,0 +1,63 @@
+//! The lengths here and in the C header are those that the crates are proved with.
+
+use leverbonnet::{FINDING_LENGTH, LINES_LENGTH, LINE_LENGTH, MOST_FINDINGS, MOST_TEXT};
+
+const HEADER: &str = include_str!("../../include/leverbonnet.h");
+const LONGEST: &[u8] = include_bytes!("../../examples/longest.job");
+
+fn assert_holds(text: &str, line: &str) {
+    assert!(text.lines().any(|found| found == line), "{line}");
+}
+
+#[test]
+fn of_a_line_and_of_all_lines() {
+    assert_holds(
+        HEADER,
+        &format!("#define LEVERBONNET_LINE_BYTES {LINE_LENGTH}"),
+    );
+    let count = LINES_LENGTH / LINE_LENGTH;
+    assert_holds(
+        HEADER,
+        &format!("#define LEVERBONNET_LINES_BYTES ({count} * LEVERBONNET_LINE_BYTES)"),
+    );
+}
+
+#[test]
+fn of_the_findings() {
+    let definition = include_str!("../../crates/findings/specs/Listing.antt");
+    assert_holds(definition, &format!("mostFindings = {MOST_FINDINGS}"));
+    assert_holds(
+        HEADER,
+        &format!("#define LEVERBONNET_FINDING_BYTES {FINDING_LENGTH}"),
+    );
+    assert_holds(
+        HEADER,
+        &format!(
+            "#define LEVERBONNET_FINDINGS_BYTES_MOST ({MOST_FINDINGS} * LEVERBONNET_FINDING_BYTES)"
+        ),
+    );
+}
+
+#[test]
+fn of_a_text() {
+    let theorems = include_str!("../../crates/printing/proofs/Lengths.antt");
+    assert_holds(
+        theorems,
+        &format!("pub text-most : (s : List ℕ) → length (jobText s) ≤ {MOST_TEXT}"),
+    );
+    assert_holds(
+        HEADER,
+        &format!("#define LEVERBONNET_TEXT_BYTES_MOST {MOST_TEXT}"),
+    );
+}
+
+#[test]
+fn of_a_job() {
+    let definition = include_str!("../../crates/job/specs/Places.antt");
+    let longest = LONGEST.len();
+    assert_holds(definition, &format!("longestJob = {longest}"));
+    assert_holds(
+        HEADER,
+        &format!("#define LEVERBONNET_JOB_BYTES_MOST {longest}"),
+    );
+}
