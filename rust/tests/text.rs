@@ -3,7 +3,7 @@
 use std::fs;
 use std::path::{Path, PathBuf};
 
-use leverbonnet::{sheet_text, Error, MOST_TEXT};
+use leverbonnet::{sheet_text, Error};
 
 fn stored_texts() -> Vec<PathBuf> {
     let folder = Path::new(env!("CARGO_MANIFEST_DIR")).join("../examples");
