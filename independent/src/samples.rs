@@ -1,4 +1,4 @@
-//! Jobs worth showing: the rules' printed job, one of several runs, one that is
+//! Jobs worth showing: the worked job of docs/RULES.md, one of several runs, one that is
 //! refused, and the longest a file can hold.
 
 use crate::job::*;

@@ -36,7 +36,7 @@ Stands (ofPositions ps) = map (position 6) (1 ∷ 2 ∷ 3 ∷ 4 ∷ 5 ∷ 6 ∷ 
 Stands (ofReading file job certificates run) =
     (readJob file ≡ job) × (map (certificateOf file) (0 ∷ 1 ∷ 2 ∷ 3 ∷ []) ≡ certificates) × (runOf file 0 ≡ run)
 
--- roots, leak and the worked job's lines; the factor moved and not moved; line 18 on either side; the positions; the printed job's file
+-- roots, leak and the worked job's lines; the factor moved and not moved; line 18 on either side; the positions; the worked job's file
 abbrev pub starred : List StarredValue
 starred =
     map ofNumbers (roots ∷ leak ∷ workedLines ∷ [])
@@ -49,7 +49,7 @@ abbrev pub presentBytes : List ℕ → List ℕ
 presentBytes [] = []
 presentBytes (v ∷ vs) = (1 ∷ le 8 v) ++ presentBytes vs
 
--- The printed job, run 7, into buffers that just suffice: accepted with one finding, the twenty lines, and the note of rule 11 at segment 1
+-- The worked job, run 7, into buffers that just suffice: accepted with one finding, the twenty lines, and the note of rule 11 at segment 1
 pub record PrintedJob : Type 0 where
   pub answer : packed (answerOf (outcome workedJob 7 sheetSize findingSize)) ≡ 65537
   pub lines : linesAfter (outcome workedJob 7 sheetSize findingSize) (replicate sheetSize 0) ≡ presentBytes (workedLines .expected)
