@@ -12,7 +12,7 @@ use scales::Scales;
 
 /// A rectangular stack's layout: sides in 0.1 in, the points' distances along
 /// both in 0.001 in.
-struct Layout<'a> {
+pub struct Layout<'a> {
     first: u16,
     second: u16,
     centers: &'a [[u32; 2]],

@@ -13,7 +13,7 @@ use super::page::Part;
 
 /// A round stack's layout: diameter in 0.1 in, nozzle and the points' distances
 /// in 0.001 in.
-struct Layout<'a> {
+pub struct Layout<'a> {
     diameter: u16,
     nozzle: u16,
     distances: &'a [u32],
