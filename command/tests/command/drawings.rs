@@ -37,6 +37,12 @@ fn rectangular() -> Vec<String> {
     GRIDS.iter().flat_map(of_grid).collect()
 }
 
+/// Every fifth of them: each size and most counts are among them. Starting the
+/// command takes long where the proved calls go over a pipe to an emulator.
+fn fewer(layouts: Vec<String>) -> impl Iterator<Item = String> {
+    layouts.into_iter().step_by(5)
+}
+
 /// The list's lines as a drawing shows them: number, and distances in inches.
 fn listed(words: &str) -> Vec<String> {
     let list = printed(words);
@@ -114,7 +120,7 @@ fn every_distance_of_the_list_is_on_the_drawing() {
 
 #[test]
 fn every_tick_stands_at_its_distance() {
-    for words in round() {
+    for words in fewer(round()) {
         let drawing = drawing(&words);
         let [zero, far] = drawing.probe();
         let scale = (far - zero) / size(&words, 2);
@@ -131,7 +137,7 @@ fn every_tick_stands_at_its_distance() {
 fn every_point_has_a_dot_on_both_diameters() {
     // Points share a dot where theirs would be less than 6 apart.
     const JOINED: f64 = 6.0;
-    for words in round() {
+    for words in fewer(round()) {
         let drawing = drawing(&words);
         let [x, y, radius] = drawing.circles("cross-section", "1")[0];
         let scale = 2.0 * radius / size(&words, 2);
@@ -149,7 +155,7 @@ fn every_point_has_a_dot_on_both_diameters() {
 
 #[test]
 fn every_dot_of_a_grid_stands_at_its_distances() {
-    for words in rectangular() {
+    for words in fewer(rectangular()) {
         let drawing = drawing(&words);
         let [left, top, wide, high] = drawing.rectangles("walls", "1")[0];
         let (across, down) = (wide / size(&words, 2), high / size(&words, 3));
@@ -261,7 +267,7 @@ fn points_that_coincide_are_named() {
 
 #[test]
 fn coincidence_is_said_exactly_where_there_is_one() {
-    for words in round() {
+    for words in fewer(round()) {
         let distances = distances(&words);
         let coincides = distances.windows(2).any(|two| two[0] == two[1]);
         let said = remarks(&words).contains(" coincide, ");
