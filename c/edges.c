@@ -87,7 +87,7 @@ static void no_output(void)
 static void line_must_read(unsigned number, int present, int64_t value, const char *expected)
 {
     leverbonnet_line line;
-    char words[LEVERBONNET_WORDS_MOST];
+    char words[LEVERBONNET_WORDS_BYTES_MOST];
     line.number = number;
     line.present = present;
     line.value = value;
@@ -111,7 +111,7 @@ static void lines_in_words(void)
 static void finding_must_read(unsigned rule, int fault, unsigned place, const char *expected)
 {
     leverbonnet_finding finding;
-    char words[LEVERBONNET_WORDS_MOST];
+    char words[LEVERBONNET_WORDS_BYTES_MOST];
     finding.rule = rule;
     finding.fault = fault;
     finding.place = place;
@@ -129,7 +129,7 @@ static void findings_in_words(void)
 
 static void refusal_must_read(uint64_t answer, const char *expected)
 {
-    char words[LEVERBONNET_WORDS_MOST];
+    char words[LEVERBONNET_WORDS_BYTES_MOST];
     must(leverbonnet_refusal_words(answer, words, sizeof words) == (int)strlen(expected), expected);
     must(strcmp(words, expected) == 0, expected);
 }
@@ -149,12 +149,12 @@ static void words_fit(void)
     line.present = finding.fault = 1;
     line.value = INT64_MIN;
     for (line.number = 0; line.number < 300; line.number++)
-        MUST(leverbonnet_line_words(line, NULL, 0) < LEVERBONNET_WORDS_MOST);
+        MUST(leverbonnet_line_words(line, NULL, 0) < LEVERBONNET_WORDS_BYTES_MOST);
     for (finding.rule = 0; finding.rule < 256; finding.rule++)
         for (finding.place = 0; finding.place <= 65535; finding.place += 65535)
-            MUST(leverbonnet_finding_words(finding, NULL, 0) < LEVERBONNET_WORDS_MOST);
+            MUST(leverbonnet_finding_words(finding, NULL, 0) < LEVERBONNET_WORDS_BYTES_MOST);
     for (finding.rule = 1; finding.rule < 300; finding.rule++)
-        MUST(leverbonnet_refusal_words(REFUSED(finding.rule, UINT32_MAX), NULL, 0) < LEVERBONNET_WORDS_MOST);
+        MUST(leverbonnet_refusal_words(REFUSED(finding.rule, UINT32_MAX), NULL, 0) < LEVERBONNET_WORDS_BYTES_MOST);
 }
 
 static void words_are_cut_off(void)

@@ -15,7 +15,7 @@ static uint8_t job[LEVERBONNET_JOB_BYTES_MOST + 1];
 static void print_run(size_t length, uint16_t run)
 {
     uint8_t lines[LEVERBONNET_LINES_BYTES], findings[LEVERBONNET_FINDINGS_BYTES_MOST];
-    char words[LEVERBONNET_WORDS_MOST];
+    char words[LEVERBONNET_WORDS_BYTES_MOST];
     uint64_t answer = leverbonnet_reduce(job, length, run, lines, sizeof lines, findings, sizeof findings);
     uint32_t count = LEVERBONNET_VALUE(answer) % LEVERBONNET_ACCEPTED, index;
     unsigned number;
@@ -35,7 +35,7 @@ int main(void)
 {
     size_t length = fread(job, 1, sizeof job, stdin);
     uint64_t runs = leverbonnet_run_count(job, length);
-    char words[LEVERBONNET_WORDS_MOST];
+    char words[LEVERBONNET_WORDS_BYTES_MOST];
     uint16_t index;
 
     if (ferror(stdin)) {

@@ -56,8 +56,8 @@ const char *leverbonnet_rule_place(unsigned rule);
  * number". */
 const char *leverbonnet_refusal_clause(unsigned number);
 
-/* Enough characters for each of the texts below, with the 0 behind them. */
-#define LEVERBONNET_WORDS_MOST 128
+/* Enough bytes for each of the texts below, with the 0 behind it. */
+#define LEVERBONNET_WORDS_BYTES_MOST 128
 
 /*
  * Each writes a text and a 0 behind it, cut off where out_len has no room for more,
