@@ -30,6 +30,11 @@ distances in inches.
 A size is inches with in behind it: 24in, 24.0in, 0.25in. A bare whole number
 is a diameter or a side in 0.1 in and a nozzle in 0.001 in. What was understood
 is said on standard error.
+
+A round stack has an even number of points on its diameter, 2 to 24; a diameter
+of 12 to 999.9 in; a nozzle of 0.1 to 1 in. A rectangular one has 9, 12, 16, 20,
+25, 30, 36, 42 or 49 points; sides of 0.1 to 999.9 in; a diameter 2LW/(L+W) of 12
+in or more. Outside of this a layout is refused.
 ",
     options: &[SVG],
     read,
