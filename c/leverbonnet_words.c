@@ -108,22 +108,25 @@ unsigned leverbonnet_line_decimals(unsigned number)
     return is_line(number) ? line_texts[number - 1].decimals : 0;
 }
 
+/* The row of a rule, or that behind the last where there is none. */
+static size_t rule_row(unsigned rule)
+{
+    size_t row = 0;
+    while (row < ROWS(rule_texts) && rule_texts[row].rule != rule)
+        row++;
+    return row;
+}
+
 const char *leverbonnet_rule_clause(unsigned rule)
 {
-    size_t k;
-    for (k = 0; k < ROWS(rule_texts); k++)
-        if (rule_texts[k].rule == rule)
-            return rule_texts[k].clause;
-    return "no rule has that number";
+    size_t row = rule_row(rule);
+    return row < ROWS(rule_texts) ? rule_texts[row].clause : "no rule has that number";
 }
 
 const char *leverbonnet_rule_place(unsigned rule)
 {
-    size_t k;
-    for (k = 0; k < ROWS(rule_texts); k++)
-        if (rule_texts[k].rule == rule)
-            return rule_texts[k].place;
-    return "";
+    size_t row = rule_row(rule);
+    return row < ROWS(rule_texts) ? rule_texts[row].place : "";
 }
 
 const char *leverbonnet_refusal_clause(unsigned number)

@@ -24,6 +24,11 @@ pub fn example_bytes(name: &str) -> Vec<u8> {
     fs::read(example(name)).expect("the example is there")
 }
 
+/// A text that is stored beside the examples.
+pub fn example_text(name: &str) -> String {
+    String::from_utf8(example_bytes(name)).expect("stored sheets are text")
+}
+
 /// A folder with a space in its name that everybody may read. It is removed
 /// when it is dropped.
 pub struct Folder(PathBuf);

@@ -1,40 +1,12 @@
 //! `sheet --words`: each job for a person.
 
-use std::ffi::OsStr;
-use std::fs;
-
-use crate::folder::{example_bytes, project};
+use crate::folder::{example_bytes, example_text};
 use crate::run::{ended, ended_with_input, leverbonnet, shell, Ended};
 
 const GOOD: &str = "examples/worked.job";
-const REFUSED: &str = "examples/refused.job";
-const MISSING: &str = "examples/missing.job";
 
 fn in_words(words: &[&str]) -> Ended {
     ended(leverbonnet(&["sheet", "--words"]).args(words))
-}
-
-fn stored(name: &str) -> String {
-    String::from_utf8(example_bytes(name)).expect("they are words")
-}
-
-#[test]
-fn every_job_with_a_stored_sheet_is_stored_in_words_and_printed_so() {
-    let files = fs::read_dir(project().join("examples")).expect("there are examples");
-    let mut met = 0;
-    for file in files {
-        let path = file.expect("examples can be listed").path();
-        if path.extension() != Some(OsStr::new("txt")) {
-            continue;
-        }
-        let text = fs::read_to_string(path.with_extension("words")).expect("it is there");
-        let job = path.with_extension("job");
-        let printed = ended(leverbonnet(&["sheet", "--words"]).arg(job));
-        let status = if text.starts_with("Refused: ") { 2 } else { 0 };
-        assert_eq!((printed.out, printed.status), (text, status));
-        met += 1;
-    }
-    assert!(met >= 3, "{met} stored sheets");
 }
 
 /// Each row of the plain sheet, `line value`, is a row here, with the point put in
@@ -102,22 +74,12 @@ fn runs_have_a_blank_line_between_them_and_none_behind() {
 }
 
 #[test]
-fn of_several_files_each_has_its_heading() {
-    let printed = in_words(&[GOOD, REFUSED, MISSING, "examples/several-runs.job"]);
-    let expected = format!(
-        "==> {GOOD} <==\n{}==> {REFUSED} <==\n{}==> {MISSING} <==\n\
-         ==> examples/several-runs.job <==\n{}",
-        stored("worked.words"),
-        stored("refused.words"),
-        stored("several-runs.words")
-    );
-    assert_eq!((printed.out, printed.status), (expected, 1));
-}
-
-#[test]
 fn words_may_be_asked_for_behind_a_file() {
     let printed = ended(&mut leverbonnet(&["sheet", GOOD, "--words"]));
-    assert_eq!((printed.out, printed.status), (stored("worked.words"), 0));
+    assert_eq!(
+        (printed.out, printed.status),
+        (example_text("worked.words"), 0)
+    );
 }
 
 #[test]
@@ -125,7 +87,10 @@ fn standard_input_is_read_too() {
     for words in [&[][..], &["-"], &["/dev/stdin"]] {
         let job = example_bytes("worked.job");
         let printed = ended_with_input(leverbonnet(&["sheet", "--words"]).args(words), &job);
-        assert_eq!((printed.out, printed.status), (stored("worked.words"), 0));
+        assert_eq!(
+            (printed.out, printed.status),
+            (example_text("worked.words"), 0)
+        );
     }
 }
 

@@ -4,7 +4,7 @@ use std::ffi::OsStr;
 use std::fs;
 use std::os::unix::ffi::OsStrExt;
 
-use crate::folder::{example, example_bytes, project, Folder};
+use crate::folder::{example, example_bytes, example_text, project, Folder};
 use crate::run::{ended, leverbonnet, Ended};
 
 const GOOD: &str = "examples/worked.job";
@@ -23,12 +23,8 @@ fn either_way(files: &[&str]) -> [Ended; 2] {
     ]
 }
 
-fn stored(name: &str) -> String {
-    String::from_utf8(example_bytes(name)).expect("sheets are text")
-}
-
 #[test]
-fn every_stored_sheet_is_printed() {
+fn every_stored_sheet_is_printed_plain_and_in_words() {
     let files = fs::read_dir(project().join("examples")).expect("there are examples");
     let mut met = 0;
     for file in files {
@@ -36,10 +32,16 @@ fn every_stored_sheet_is_printed() {
         if path.extension() != Some(OsStr::new("txt")) {
             continue;
         }
-        let text = fs::read_to_string(&path).expect("sheets are text");
-        let printed = ended(leverbonnet(&["sheet"]).arg(path.with_extension("job")));
-        let status = if text.starts_with("REFUSED") { 2 } else { 0 };
-        assert_eq!((printed.out, printed.status), (text, status));
+        let job = path.with_extension("job");
+        let refused = fs::read(&path)
+            .expect("it is there")
+            .starts_with(b"REFUSED");
+        for (options, ending) in [(&[][..], "txt"), (&["--words"], "words")] {
+            let text = fs::read_to_string(path.with_extension(ending)).expect("sheets are text");
+            let printed = ended(leverbonnet(&["sheet"]).args(options).arg(&job));
+            let status = if refused { 2 } else { 0 };
+            assert_eq!((printed.out, printed.status), (text, status));
+        }
         met += 1;
     }
     assert!(met >= 3, "{met} stored sheets");
@@ -62,20 +64,23 @@ fn a_good_job_tells_nothing() {
 
 #[test]
 fn one_file_has_no_heading() {
-    assert_eq!(sheet(&[GOOD]).out, stored("worked.txt"));
+    assert_eq!(sheet(&[GOOD]).out, example_text("worked.txt"));
 }
 
 #[test]
 fn of_several_files_each_has_its_heading() {
-    let printed = sheet(&[GOOD, REFUSED, MISSING, "examples/several-runs.job"]);
-    let expected = format!(
-        "==> {GOOD} <==\n{}==> {REFUSED} <==\n{}==> {MISSING} <==\n\
-         ==> examples/several-runs.job <==\n{}",
-        stored("worked.txt"),
-        stored("refused.txt"),
-        stored("several-runs.txt")
-    );
-    assert_eq!(printed.out, expected);
+    let printed = either_way(&[GOOD, REFUSED, MISSING, "examples/several-runs.job"]);
+    for (printed, ending) in printed.into_iter().zip(["txt", "words"]) {
+        let stored = |name: &str| example_text(&format!("{name}.{ending}"));
+        let expected = format!(
+            "==> {GOOD} <==\n{}==> {REFUSED} <==\n{}==> {MISSING} <==\n\
+             ==> examples/several-runs.job <==\n{}",
+            stored("worked"),
+            stored("refused"),
+            stored("several-runs")
+        );
+        assert_eq!((printed.out, printed.status), (expected, 1));
+    }
 }
 
 #[test]
@@ -159,5 +164,5 @@ fn a_file_that_begins_with_a_dash_is_read_after_two() {
     fs::copy(example("worked.job"), folder.join("--help")).expect("any name can be given");
     let mut command = leverbonnet(&["sheet", "--", "--help"]);
     let printed = ended(command.current_dir(&*folder));
-    assert_eq!(printed.out, stored("worked.txt"));
+    assert_eq!(printed.out, example_text("worked.txt"));
 }

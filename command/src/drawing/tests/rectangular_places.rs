@@ -30,14 +30,19 @@ fn sides(layout: Layout) -> (f64, f64) {
     }
 }
 
+/// Units on the page for 0.001 in, across and down, of walls with that inside.
+fn scales(layout: Layout, inside: &Room) -> (f64, f64) {
+    let (first, second) = sides(layout);
+    let (wide, high) = (inside.right - inside.left, inside.bottom - inside.top);
+    (wide / first, high / second)
+}
+
 #[test]
 fn each_point_stands_at_its_distances_with_both_below_it() {
     for layout in rectangular_layouts() {
         let page = layout.page();
         let inside = inside(&page);
-        let (first, second) = sides(layout);
-        let across = (inside.right - inside.left) / first;
-        let down = (inside.bottom - inside.top) / second;
+        let (across, down) = scales(layout, &inside);
         let centers = layout.centers();
         let points: Vec<&[Shape]> = part(&page, "points").chunks(4).collect();
         assert_eq!(points.len(), centers.len(), "{layout}");
@@ -89,10 +94,7 @@ fn each_row_has_its_port_at_its_height() {
 fn both_sides_have_one_scale_unless_the_caption_says_by_how_much_they_differ() {
     for layout in rectangular_layouts() {
         let page = layout.page();
-        let inside = inside(&page);
-        let (first, second) = sides(layout);
-        let across = (inside.right - inside.left) / first;
-        let down = (inside.bottom - inside.top) / second;
+        let (across, down) = scales(layout, &inside(&page));
         let caption: Vec<&str> = part(&page, "caption")
             .iter()
             .filter_map(|shape| text(shape).map(|text| text.words.as_str()))
