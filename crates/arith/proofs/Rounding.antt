@@ -52,11 +52,15 @@ round-le-exact n d m h b =
 pub round-le : (n d m : ℕ) → 0 < d → n ≤ m * d → roundDiv n d ≤ m
 round-le n d m h b = round-le-exact n d m h (omega arith)
 
-pub le-round : (n d m : ℕ) → 0 < d → m * d ≤ n → m ≤ roundDiv n d
+-- No less than m, exactly: m less a half, or above
+pub le-round-exact : (n d m : ℕ) → 0 < d → 2 * (m * d) ≤ 2 * n + d → m ≤ roundDiv n d
 unfolding roundDiv
-le-round n d m h b =
+le-round-exact n d m h b =
     let swap : m * (2 * d) ≡ 2 * (m * d) = mul-left-comm m 2 d in
     le-div-iff-mul-le (double-pos h) .1 (omega arith)
+
+pub le-round : (n d m : ℕ) → 0 < d → m * d ≤ n → m ≤ roundDiv n d
+le-round n d m h b = le-round-exact n d m h (omega arith)
 
 -- A larger numerator never rounds lower
 pub round-mono : (n m d : ℕ) → 0 < d → n ≤ m → roundDiv n d ≤ roundDiv m d

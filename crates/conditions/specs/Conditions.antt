@@ -1,4 +1,4 @@
--- What each of the twenty rules of docs/RULES.md goes by.
+-- What each rule of docs/RULES.md goes by.
 use Prim.Native.Nat.{ℕ, _+_, _-_, _*_, _/_, _^_, _≤_, min, max}
 use mathlib.Core.Path.{_≡_}
 use mathlib.Core.Bool.{Bool, cond, _&&_}
@@ -161,7 +161,7 @@ leaking t v Whole = Silent
 leaking t v (OnePoint p) = Silent
 leaking t v (OneWeighing w) = Silent
 
--- 12, 13, 14, 15, 16: a line against its limit, where it is present
+-- 12, 14, 15, 16: a line against its limit, where it is present
 unfoldable pub lineAgainst : Value → Way → ℕ → Ground
 lineAgainst Missing way limit = Silent
 lineAgainst (Known n) way limit = Compared (compare n way limit)

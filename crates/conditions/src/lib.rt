@@ -1,4 +1,4 @@
-// What each of the twenty rules goes by, one by one. Relies on the chosen certificates and on what each line is promised to be.
+// What each rule goes by, one by one. Relies on the chosen certificates and on what each line is promised to be.
 // No rule takes a run or an array.
 
 pub mod certificates;

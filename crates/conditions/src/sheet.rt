@@ -1,4 +1,4 @@
-// Rules 12 to 16: lines 3, 6, 15 and 18, each against its limit.
+// Rules 12, 14, 15 and 16: lines 3, 15 and 18, each against its limit.
 
 use crate::grounds::Ground;
 use certs::comparison::Comparison;

@@ -12,7 +12,7 @@ pub mod Sorted
 pub mod Demand3
 pub mod SameOutcomes
 pub mod TwoJobs
-pub mod RuleThirteen
+pub mod Thirteen
 pub mod MostReached
 pub mod Fronts
 pub mod Beyond

@@ -15,7 +15,7 @@ use Rattle.records.specs.declared.Run.{Run}
 use Rattle.lines.specs.declared.Lines.{Lines}
 use Rattle.certs.specs.declared.Chosen.{Chosen}
 use Rattle.findings.specs.declared.Finding.{Finding}
-use Rattle.rules.specs.Rules.{ruleCount, placesOf, placeAt, classOf}
+use Rattle.rules.specs.Rules.{lastRule, placesOf, placeAt, classOf}
 use Rattle.findings.specs.Listing.{brokenAt, findingAt, ruleFindings, findingsTo, findings, noFinding}
 use Rattle.demands.specs.Demands.{Precedes}
 use Rattle.findings.proofs.Members.{at-index, OfRule, OfRules, rule-members, all-members}
@@ -100,7 +100,7 @@ sorted-at (f ∷ fs) s (suc i) (suc j) l inside = sorted-at fs (s .1) i j (le-of
 -- The list is in order: by rule, and then by place
 pub in-order : (r : Run) (ch : Chosen) (l : Lines) (i j : ℕ) → i < j → j < length (findings r ch l) → Precedes (getD (findings r ch l) i noFinding) (getD (findings r ch l) j noFinding)
 unfolding findings
-in-order r ch l i j = sorted-at (findings r ch l) (all-sorted (r .header .counts) (brokenAt r ch l) ruleCount) i j
+in-order r ch l i j = sorted-at (findings r ch l) (all-sorted (r .header .counts) (brokenAt r ch l) lastRule) i j
 
 not-before-itself : (a b : Finding) → Precedes a b → a .rule ≡ b .rule → a .place ≡ b .place → ⊥
 not-before-itself a b (inl lower) rule place = omega arith
@@ -122,6 +122,6 @@ each-once r ch l i j i-in j-in rule place = go (decLt i j) (decLt j i)
 pub class-at : (r : Run) (ch : Chosen) (l : Lines) (i : ℕ) → i < length (findings r ch l) → getD (findings r ch l) i noFinding .class ≡ classOf (getD (findings r ch l) i noFinding .rule)
 unfolding findings findingAt
 class-at r ch l i inside =
-    let o : OfRules (brokenAt r ch l) (placesOf (r .header .counts)) ruleCount (getD (findings r ch l) i noFinding) =
-    all-members (brokenAt r ch l) (placesOf (r .header .counts)) ruleCount (at-index (findings r ch l) i inside) in
+    let o : OfRules (brokenAt r ch l) (placesOf (r .header .counts)) lastRule (getD (findings r ch l) i noFinding) =
+    all-members (brokenAt r ch l) (placesOf (r .header .counts)) lastRule (at-index (findings r ch l) i inside) in
     rw (o .of .is)

@@ -48,10 +48,6 @@ module _ (r : Run) (ch : Chosen) (l : Lines) (is : l ≡ linesFor r ch) where
   unfolding linesFor lines metering stack moisture
   no-moisture e = rw (is, rw is at e) (velocity-missing (coefficientOf ch) _ _ _ _)
 
-  pub no-gas : l .metering .dry ≡ Known 0 → l .stack .velocity ≡ Missing
-  unfolding linesFor lines metering stack moisture unlessZero
-  no-gas e = rw (is, rw is at e) (velocity-missing (coefficientOf ch) _ _ _ _)
-
   pub no-velocity : l .stack .velocity ≡ Missing → l .sampling .isokinetic ≡ Missing
   unfolding linesFor lines sampling
   no-velocity e = rw (is, rw is at e) (isokinetic-missing _ _ _)

@@ -9,7 +9,7 @@ use native.Mathlib.Numerals.{add-one}
 use native.Mathlib.Omega.{arith}
 use lib.ListN.{length, set, length-append}
 use Rattle.arrays.proofs.Filled.{Filled, filled-more}
-use Rattle.rules.specs.Rules.{ruleCount}
+use Rattle.rules.specs.Rules.{lastRule}
 use Rattle.findings.specs.declared.Finding.{Finding}
 use Rattle.findings.specs.declared.Findings.{Findings}
 use Rattle.findings.specs.Listing.{findingAt, ruleFindings, findingsTo, mostFindings, noFinding, listed}
@@ -68,7 +68,7 @@ module _ (isBroken : ℕ → ℕ → Bool) (places : ℕ → ℕ) where
       (λ k. omega (arith, length-append (findingsTo isBroken places k) (ruleFindings (isBroken (k + 1)) (k + 1) (places (k + 1)))))
 
   -- where a rule is broken, the list is not yet as long as it will be
-  pub room : (k i : ℕ) {test : Bool} → k < ruleCount → i < places (k + 1) → test ≡ isBroken (k + 1) i → test ≡ true → length (findingsTo isBroken places k ++ ruleFindings (isBroken (k + 1)) (k + 1) i) < length (findingsTo isBroken places ruleCount)
+  pub room : (k i : ℕ) {test : Bool} → k < lastRule → i < places (k + 1) → test ≡ isBroken (k + 1) i → test ≡ true → length (findingsTo isBroken places k ++ ruleFindings (isBroken (k + 1)) (k + 1) i) < length (findingsTo isBroken places lastRule)
   room k i rule-in place-in t e =
       let fs : List Finding = findingsTo isBroken places k in
       let now : List Finding = ruleFindings (isBroken (k + 1)) (k + 1) i in
@@ -76,7 +76,7 @@ module _ (isBroken : ℕ → ℕ → Bool) (places : ℕ → ℕ) where
       let more : length (ruleFindings (isBroken (k + 1)) (k + 1) (i + 1)) ≡ length now + 1 =
       ap length (found-more (k + 1) i t e) ∙ length-append now (findingAt (k + 1) i ∷ []) in
       let place-le : i + 1 ≤ places (k + 1) = omega arith in
-      let rule-le : k + 1 ≤ ruleCount = omega arith in
+      let rule-le : k + 1 ≤ lastRule = omega arith in
       let next : length (findingsTo isBroken places (k + 1)) ≡ length fs + length all = ap length (rule-more k) ∙ length-append fs all in
       omega (arith, length-append fs now, rule-rising (k + 1) _ _ place-le, rules-rising _ _ rule-le)
 
@@ -84,11 +84,11 @@ module _ (isBroken : ℕ → ℕ → Bool) (places : ℕ → ℕ) where
   pub entered-first : (k : ℕ) {n : ℕ} {xs : List Finding} → Entered (findingsTo isBroken places k) n xs → Entered (findingsTo isBroken places k ++ ruleFindings (isBroken (k + 1)) (k + 1) 0) n xs
   entered-first k s = rw (found-none (findingsTo isBroken places k) (k + 1)) s
 
-  pub entered-room : (k i : ℕ) {n : ℕ} {xs : List Finding} {test : Bool} → length (findingsTo isBroken places ruleCount) ≤ mostFindings → k < ruleCount → i < places (k + 1) → test ≡ isBroken (k + 1) i → test ≡ true → Entered (findingsTo isBroken places k ++ ruleFindings (isBroken (k + 1)) (k + 1) i) n xs → n < mostFindings
+  pub entered-room : (k i : ℕ) {n : ℕ} {xs : List Finding} {test : Bool} → length (findingsTo isBroken places lastRule) ≤ mostFindings → k < lastRule → i < places (k + 1) → test ≡ isBroken (k + 1) i → test ≡ true → Entered (findingsTo isBroken places k ++ ruleFindings (isBroken (k + 1)) (k + 1) i) n xs → n < mostFindings
   entered-room k i within rule-in place-in t e s =
       rw (s .count) (lt-of-lt-of-le (room k i rule-in place-in t e) within)
 
-  pub entered-found : (k i : ℕ) {n : ℕ} {xs : List Finding} {test : Bool} {f : Finding} → length (findingsTo isBroken places ruleCount) ≤ mostFindings → k < ruleCount → i < places (k + 1) → test ≡ isBroken (k + 1) i → test ≡ true → f ≡ findingAt (k + 1) i → Entered (findingsTo isBroken places k ++ ruleFindings (isBroken (k + 1)) (k + 1) i) n xs → Entered (findingsTo isBroken places k ++ ruleFindings (isBroken (k + 1)) (k + 1) (i + 1)) (n + 1) (set xs n f)
+  pub entered-found : (k i : ℕ) {n : ℕ} {xs : List Finding} {test : Bool} {f : Finding} → length (findingsTo isBroken places lastRule) ≤ mostFindings → k < lastRule → i < places (k + 1) → test ≡ isBroken (k + 1) i → test ≡ true → f ≡ findingAt (k + 1) i → Entered (findingsTo isBroken places k ++ ruleFindings (isBroken (k + 1)) (k + 1) i) n xs → Entered (findingsTo isBroken places k ++ ruleFindings (isBroken (k + 1)) (k + 1) (i + 1)) (n + 1) (set xs n f)
   entered-found k i within rule-in place-in t e is s =
       rw (found-more (k + 1) i t e, is, ← append-assoc)
       (filled-more (findingAt (k + 1) i) s (entered-room k i within rule-in place-in t e s))

@@ -11,7 +11,7 @@ use Rattle.metering.specs.Metering.{time, meteredVolume, metering}
 use Rattle.lines.specs.Sheet.{lines}
 use Rattle.certs.specs.declared.Chosen.{Chosen}
 use Rattle.rules.specs.declared.Beside.{Beside}
-use Rattle.rules.specs.Rules.{ruleCount, Judgeable, placesOf}
+use Rattle.rules.specs.Rules.{Judgeable, placesOf}
 use Rattle.findings.specs.Listing.{besideOf, linesFor, Worked}
 use Rattle.findings.proofs.Places.{inside-points, inside-segments, inside-weighings}
 
@@ -39,8 +39,7 @@ module _ (r : Run) (ch : Chosen) (l : Lines) (w : Worked r ch l) where
   pub weighing-in : {rule i : ℕ} → rule ≡ 17 → i < placesOf (r .header .counts) rule → i < greatestWeighingCount
   weighing-in e h = lt-of-lt-of-le (inside-weighings _ e h) weighings-in
 
-  -- Any of the twenty rules can be judged beside what it may see of the run
-  pub judgeable : {rule : ℕ} {beside : Beside} → 1 ≤ rule → rule ≤ ruleCount → beside ≡ besideOf r ch l → Judgeable beside rule
+  -- Any rule can be judged beside what it may see of the run
+  pub judgeable : {beside : Beside} → beside ≡ besideOf r ch l → Judgeable beside
   unfolding besideOf
-  judgeable first last is =
-      rw is (record { first = first; last = last; time = worked-time r ch l w; volume = worked-volume r ch l w })
+  judgeable is = rw is (record { time = worked-time r ch l w; volume = worked-volume r ch l w })

@@ -11,7 +11,7 @@ use Rattle.records.specs.declared.Run.{Run}
 use Rattle.lines.specs.declared.Lines.{Lines}
 use Rattle.certs.specs.declared.Chosen.{Chosen}
 use Rattle.findings.specs.declared.Finding.{Finding}
-use Rattle.rules.specs.Rules.{ruleCount, placesOf, placeAt}
+use Rattle.rules.specs.Rules.{lastRule, placesOf, placeAt}
 use Rattle.findings.specs.Listing.{brokenAt, findingAt, ruleFindings, findingsTo, findings, noFinding, Breaks, HasFinding}
 
 -- what stands at an index of a list is in it
@@ -98,8 +98,8 @@ listed-exactly r ch l rule place = (found, present)
   where
     found : HasFinding (findings r ch l) rule place → Breaks r ch l rule place
     found h =
-        let o : OfRules (brokenAt r ch l) (placesOf (r .header .counts)) ruleCount (getD (findings r ch l) (h .index) noFinding) =
-        all-members (brokenAt r ch l) (placesOf (r .header .counts)) ruleCount (at-index (findings r ch l) (h .index) (h .inside)) in
+        let o : OfRules (brokenAt r ch l) (placesOf (r .header .counts)) lastRule (getD (findings r ch l) (h .index) noFinding) =
+        all-members (brokenAt r ch l) (placesOf (r .header .counts)) lastRule (at-index (findings r ch l) (h .index) (h .inside)) in
         let number : o .rule ≡ rule = sym (ap (λ (f : Finding). f .rule) (o .of .is)) ∙ h .same .0 in
         let there : placeAt (o .rule) (o .of .index) ≡ place = sym (ap (λ (f : Finding). f .place) (o .of .is)) ∙ h .same .1 in
         rw (← number, ← there)
@@ -114,7 +114,7 @@ listed-exactly r ch l rule place = (found, present)
 
     present : Breaks r ch l rule place → HasFinding (findings r ch l) rule place
     present b =
-        let (i, (inside, is)) = index-of (all-hold (brokenAt r ch l) (placesOf (r .header .counts)) ruleCount rule (b .index) (b .first) (b .last) (b .inside) (b .broken)) in
+        let (i, (inside, is)) = index-of (all-hold (brokenAt r ch l) (placesOf (r .header .counts)) lastRule rule (b .index) (b .first) (b .last) (b .inside) (b .broken)) in
         record {
           index = i;
           inside = inside;

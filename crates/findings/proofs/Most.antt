@@ -1,4 +1,4 @@
--- A run has at most 98 findings: of 3 and 6, of 4 and 5, and of 12 to 16 at most one can be broken, and with eight weighings not both 18 and 19.
+-- A run has at most 98 findings: of 3 and 6, of 4 and 5, and of 12, 14, 15 and 16 at most one can be broken, and with eight weighings not both 18 and 19.
 use Prim.Native.Nat.{ℕ, zero, suc, _+_, _≤_, _<_}
 use mathlib.Core.Path.{_≡_, refl, _∙_, ap}
 use mathlib.Core.Bool.{Bool, true, false, cond}
@@ -26,10 +26,10 @@ use Rattle.certs.specs.Comparing.{holds}
 use Rattle.rules.specs.declared.Beside.{Beside}
 use Rattle.conditions.specs.Grounds.{broken}
 use Rattle.conditions.specs.Conditions.{missing, moved, uneven, lineAgainst, leastIsokinetic, greatestIsokinetic, lacking}
-use Rattle.rules.specs.Rules.{ruleCount, grounds, groundOf, placesOf}
+use Rattle.rules.specs.Rules.{lastRule, table, groundOf, placesOf}
 use Rattle.findings.specs.Listing.{partOf, oneOfKind, ofKind, besideOf, brokenAt, findingAt, ruleFindings, findingsTo, findings, linesFor, findingsFor, mostFindings, Worked}
 use Rattle.findings.proofs.Filling.{rising}
-use Rattle.findings.proofs.Absent.{no-volume, no-moisture, no-gas, no-velocity, no-flow}
+use Rattle.findings.proofs.Absent.{no-volume, no-moisture, no-velocity, no-flow}
 
 -- one where a rule is broken, and otherwise nothing
 abbrev bit : Bool → ℕ
@@ -164,19 +164,16 @@ weighed-once ws n many few le kinds = go (decLe 1 n)
 
 module _ (r : Run) (ch : Chosen) (l : Lines) (w : Worked r ch l) where
   -- rules 12 to 16 together
-  lines-once : bit (brokenAt r ch l 12 0) + (bit (brokenAt r ch l 13 0) + (bit (brokenAt r ch l 14 0) + (bit (brokenAt r ch l 15 0) + bit (brokenAt r ch l 16 0)))) ≤ 1
-  unfolding besideOf brokenAt grounds groundOf
+  lines-once : bit (brokenAt r ch l 12 0) + (bit (brokenAt r ch l 14 0) + (bit (brokenAt r ch l 15 0) + bit (brokenAt r ch l 16 0))) ≤ 1
+  unfolding besideOf brokenAt table groundOf
   lines-once =
-      zero-once _ _ (zero-once _ _ (zero-once _ _ (percent-once _)
-      (λ e. percent-missing _ (no-flow r ch l (w .lines) e)))
-      (λ e. after-velocity (no-gas r ch l (w .lines) e)))
-      (λ e. let zero-volume : l .metering .corrected ≡ 0 = cc in after-dry (no-volume r ch l (w .lines) zero-volume))
+      zero-once _ _ (zero-once _ _ (percent-once _) (λ e. percent-missing _ (no-flow r ch l (w .lines) e)))
+      (λ e.
+      let no-volume-drawn : l .metering .corrected ≡ 0 = cc in
+      after-velocity (no-moisture r ch l (w .lines) (no-volume r ch l (w .lines) no-volume-drawn)))
     where
       after-velocity : l .stack .velocity ≡ Missing → bit (broken (lineAgainst (l .stack .velocity) Same 0)) + (bit (broken (lineAgainst (l .sampling .isokinetic) Below leastIsokinetic)) + bit (broken (lineAgainst (l .sampling .isokinetic) Above greatestIsokinetic))) ≡ 0
       after-velocity e = zero-missing _ _ e (percent-missing _ (no-velocity r ch l (w .lines) e))
-
-      after-dry : l .metering .dry ≡ Missing → bit (broken (lineAgainst (l .metering .dry) Same 0)) + (bit (broken (lineAgainst (l .stack .velocity) Same 0)) + (bit (broken (lineAgainst (l .sampling .isokinetic) Below leastIsokinetic)) + bit (broken (lineAgainst (l .sampling .isokinetic) Above greatestIsokinetic)))) ≡ 0
-      after-dry e = zero-missing _ _ e (after-velocity (no-moisture r ch l (w .lines) e))
 
   -- how many findings rule number `rule` has
   has : ℕ → ℕ
@@ -191,19 +188,24 @@ module _ (r : Run) (ch : Chosen) (l : Lines) (w : Worked r ch l) where
   has-whole rule e = many-whole (brokenAt r ch l) (placesOf (r .header .counts)) rule e
 
   three-and-six : has 3 + has 6 ≤ 1
-  unfolding placesOf besideOf brokenAt grounds groundOf
+  unfolding placesOf besideOf brokenAt table groundOf
   three-and-six = rw (has-whole 3 refl, has-whole 6 refl) (nozzle-once (ch .nozzle))
 
   four-and-five : has 4 + has 5 ≤ 1
-  unfolding placesOf besideOf brokenAt grounds groundOf
+  unfolding placesOf besideOf brokenAt table groundOf
   four-and-five = rw (has-whole 4 refl, has-whole 5 refl) (factor-once (ch .before) (ch .after))
 
-  twelve-to-sixteen : has 12 + (has 13 + (has 14 + (has 15 + has 16))) ≤ 1
+  twelve-to-sixteen : has 12 + (has 14 + (has 15 + has 16)) ≤ 1
   unfolding placesOf
-  twelve-to-sixteen = rw (has-whole 12 refl, has-whole 13 refl, has-whole 14 refl, has-whole 15 refl, has-whole 16 refl) lines-once
+  twelve-to-sixteen = rw (has-whole 12 refl, has-whole 14 refl, has-whole 15 refl, has-whole 16 refl) lines-once
+
+  -- a number without a rule has none
+  no-thirteen : has 13 ≡ 0
+  unfolding placesOf brokenAt broken table groundOf
+  no-thirteen = rw (has-whole 13 refl)
 
   seventeen-to-nineteen : has 17 + has 18 + has 19 ≤ greatestWeighingCount + 1
-  unfolding placesOf besideOf brokenAt grounds groundOf
+  unfolding placesOf besideOf brokenAt table groundOf
   seventeen-to-nineteen =
       rw (has-whole 18 refl, has-whole 19 refl)
       (weighed-once (r .weighings) (r .header .counts .weighings) (has 17) (within-greatest _ _ _ (w .ok .header .weighings)) (has-le 17)
@@ -211,7 +213,7 @@ module _ (r : Run) (ch : Chosen) (l : Lines) (w : Worked r ch l) where
       let kind = w .ok .weighings i inside .kind in
       (within-least _ _ _ kind, within-greatest _ _ _ kind)))
 
-  all-fit : length (findingsTo (brokenAt r ch l) (placesOf (r .header .counts)) ruleCount) ≤ mostFindings
+  all-fit : length (findingsTo (brokenAt r ch l) (placesOf (r .header .counts)) lastRule) ≤ mostFindings
   unfolding placesOf sumTo has
   all-fit =
       let points : r .header .counts .points ≤ greatestPointCount = within-greatest _ _ _ (w .ok .header .points) in
@@ -224,10 +226,10 @@ module _ (r : Run) (ch : Chosen) (l : Lines) (w : Worked r ch l) where
       let eight : has 8 ≤ 1 = has-le 8 in
       let nine : has 9 ≤ 1 = has-le 9 in
       let twenty : has 20 ≤ 1 = has-le 20 in
-      omega (arith, many-all (brokenAt r ch l) (placesOf (r .header .counts)) ruleCount, three-and-six, four-and-five, twelve-to-sixteen, seventeen-to-nineteen)
+      omega (arith, many-all (brokenAt r ch l) (placesOf (r .header .counts)) lastRule, three-and-six, four-and-five, twelve-to-sixteen, no-thirteen, seventeen-to-nineteen)
 
   -- the same where what stands beside is known only to be the run's
-  pub all-fit-beside : {beside : Beside} → beside ≡ besideOf r ch l → length (findingsTo (λ rule i. broken (groundOf (partOf r rule i) beside rule)) (placesOf (r .header .counts)) ruleCount) ≤ mostFindings
+  pub all-fit-beside : {beside : Beside} → beside ≡ besideOf r ch l → length (findingsTo (λ rule i. broken (groundOf (partOf r rule i) beside rule)) (placesOf (r .header .counts)) lastRule) ≤ mostFindings
   unfolding brokenAt
   all-fit-beside is = rw is all-fit
 

@@ -21,7 +21,7 @@ use Rattle.conditions.specs.declared.Part.the-variants.{Whole, OnePoint, OneSeg
 use Rattle.rules.specs.declared.Beside.{Beside}
 use Rattle.conditions.specs.Grounds.{broken}
 use Rattle.conditions.specs.Conditions.{minimumPoints}
-use Rattle.rules.specs.Rules.{ruleCount, groundOf, placesOf, placeAt, fault, classOf}
+use Rattle.rules.specs.Rules.{lastRule, groundOf, placesOf, placeAt, fault, classOf}
 use Rattle.findings.specs.declared.Finding.{Finding}
 use Rattle.findings.specs.declared.Findings.{Findings}
 
@@ -73,7 +73,7 @@ findingsTo isBroken places (suc k) =
 
 -- The findings of a run
 unfoldable pub findings : Run → Chosen → Lines → List Finding
-findings r ch l = findingsTo (brokenAt r ch l) (placesOf (r .header .counts)) ruleCount
+findings r ch l = findingsTo (brokenAt r ch l) (placesOf (r .header .counts)) lastRule
 
 -- no finding is a fault
 unfoldable pub accepted : List Finding → Bool
@@ -106,10 +106,10 @@ pub record Worked (r : Run) (ch : Chosen) (l : Lines) : Type 0 where
 
 -- What the list is promised to be, in the words of docs/RULES.md
 
--- a run breaks a rule at a place: one of the twenty rules, at one of its places
+-- a run breaks a rule at a place: one of the rules, at one of its places
 pub record Breaks (r : Run) (ch : Chosen) (l : Lines) (rule place : ℕ) : Type 0 where
   pub first : 1 ≤ rule
-  pub last : rule ≤ ruleCount
+  pub last : rule ≤ lastRule
   pub index : ℕ
   pub inside : index < placesOf (r .header .counts) rule
   pub there : place ≡ placeAt rule index

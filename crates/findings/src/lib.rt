@@ -81,7 +81,7 @@ pub fn find(run: Run, chosen: Chosen, lines: Lines) -> Findings
     }; MOST_FINDINGS];
     let mut count: usize = 0;
     let mut done: u8 = 0;
-    while done < rules::RULES {
+    while done < rules::LAST_RULE {
         let rule = done + 1;
         let places = rules::places(header.counts, rule);
         let mut i: u8 = 0;

@@ -25,10 +25,6 @@ pub moisture-missing : {dry : Value} (vapor : ℕ) → dry ≡ Missing → moist
 unfolding moisture
 moisture-missing vapor e = rw e
 
-pub moisture-zero : {dry : Value} {v : ℕ} (vapor : ℕ) → dry ≡ Known v → v ≡ 0 → moisture dry vapor ≡ Missing
+pub moisture-known : {dry : Value} {v : ℕ} (vapor : ℕ) → dry ≡ Known v → moisture dry vapor ≡ Known (roundDiv (100000 * vapor) (v + vapor))
 unfolding moisture
-moisture-zero vapor e z = rw e (unless-zero _ z)
-
-pub moisture-known : {dry : Value} (v vapor : ℕ) → dry ≡ Known v → (v ≡ 0 → ⊥) → moisture dry vapor ≡ Known (roundDiv (100000 * vapor) (v + vapor))
-unfolding moisture
-moisture-known v vapor e some = rw e (unless-some v _ some)
+moisture-known vapor e = rw e

@@ -2,6 +2,7 @@
 pub mod Points
 pub mod Passes
 pub mod Products
+pub mod DryVolume
 pub mod Cases
 pub mod RunInRange
 pub mod Together

@@ -2,3 +2,4 @@
 pub mod EarlyAnswers
 pub mod Ranges
 pub mod Grids
+pub mod LeastVolume

@@ -6,12 +6,12 @@ use Rattle.certs.specs.Comparing.{holds, apart}
 use Rattle.certs.specs.Factor.{factorMoved, factor, factorOf}
 use Rattle.conditions.specs.Grounds.{broken}
 use Rattle.conditions.specs.Conditions.{moved, lineAgainst, leastIsokinetic, greatestIsokinetic}
-use Rattle.rules.specs.Rules.{grounds, groundOf}
+use Rattle.rules.specs.Rules.{table, groundOf}
 use Rattle.rules.specs.Starred.{Each, StarredFactor, starredFactors, FactorStands, StarredIsokinetic, starredIsokinetic, IsokineticStands}
 
 -- a starred factor stands where the two factors alone give the note and Y
 factor-stands : (s : StarredFactor) → holds (factorMoved (s .before) (s .after)) ≡ s .note → factor (s .before) (s .after) ≡ s .y → FactorStands s
-unfolding broken moved grounds groundOf factorOf
+unfolding broken moved table groundOf factorOf
 factor-stands s note y part b before after is-before is-after first second = (
   rw (is-before, is-after, first, second) note,
   rw (is-before, is-after, first, second, y),
@@ -23,7 +23,7 @@ starred-factors = (factor-stands _ refl refl, (factor-stands _ refl refl, (facto
 
 -- a starred line 18 stands where the line alone gives the faults
 isokinetic-stands : (s : StarredIsokinetic) → ltb (s .line) leastIsokinetic ≡ s .fifteen → ltb greatestIsokinetic (s .line) ≡ s .sixteen → IsokineticStands s
-unfolding broken lineAgainst grounds groundOf holds
+unfolding broken lineAgainst table groundOf holds
 isokinetic-stands s fifteen sixteen part b known = (rw known fifteen, rw known sixteen)
 
 pub starred-isokinetic : Each IsokineticStands starredIsokinetic

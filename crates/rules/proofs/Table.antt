@@ -1,13 +1,19 @@
--- The last row of a table: a number that is none of the rows before it.
-use Prim.Native.Nat.{ℕ, zero, suc, _≤_, _<_}
-use mathlib.Core.Path.{_≡_}
-use native.Mathlib.Omega.{arith}
+-- A number that no rule of a table has.
+use Prim.Native.Nat.{ℕ}
+use mathlib.Core.Path.{_≡_, refl}
+use mathlib.Core.List.{List, [], _∷_}
+use borrow.Author.Tests.{ne-eqb}
+use Rattle.conditions.specs.declared.grounds.Ground.the-variants.{Silent}
+use Rattle.rules.specs.Rules.{Rule, groundIn}
 
--- n is none of 1 to k, told in turn
-abbrev pub NoneTo : ℕ → ℕ → Type 0
-NoneTo n zero = Unit {0}
-NoneTo n (suc k) = NoneTo n k × (n ≡ suc k → ⊥)
+-- P, and the number is that of no rule, told in turn
+abbrev pub NoneOf : List Rule → ℕ → Type 0 → Type 0
+NoneOf [] n P = P
+NoneOf (rule ∷ rules) n P = NoneOf rules n (P × (n ≡ rule .number → ⊥))
 
-pub past-all : (n k : ℕ) → 1 ≤ n → NoneTo n k → k < n
-past-all n zero first none = first
-past-all n (suc k) first (before, not-this) = let past : k < n = past-all n k first before in omega arith
+-- It goes by nothing
+pub no-rule : (rules : List Rule) (n : ℕ) (P : Type 0) → NoneOf rules n P → (Silent ≡ groundIn rules n) × P
+no-rule [] n P p = (refl, p)
+no-rule (rule ∷ rules) n P p =
+    let (rest, (before, not-this)) = no-rule rules n (P × (n ≡ rule .number → ⊥)) p in
+    (rw (ne-eqb n (rule .number) not-this) rest, before)

@@ -1,3 +1,3 @@
--- The twenty rules.
+-- The rules.
 pub mod Rules
 pub mod Starred

@@ -1,10 +1,8 @@
--- The table of the twenty rules of docs/RULES.md, of what places each speaks, and its class.
-use Prim.Native.Nat.{ℕ, _+_, _-_, _*_, _/_, _^_, _≤_}
-use mathlib.Core.Path.{_≡_}
-use mathlib.Core.Bool.{cond, _&&_}
+-- The table of the rules of docs/RULES.md, of what places each speaks, and its class.
+use Prim.Native.Nat.{ℕ, _+_, _≤_}
+use mathlib.Core.Bool.{cond}
 use mathlib.Core.List.{List, [], _∷_}
 use lib.Dec.{eqb}
-use lib.ListN.{getD}
 use Rattle.readings.specs.Ranges.{greatestAboveFirst, greatestTotalSeconds}
 use Rattle.readings.specs.Grids.{oneOf}
 use Rattle.records.specs.declared.Counts.{Counts}
@@ -16,43 +14,54 @@ use Rattle.conditions.specs.declared.Part.{Part}
 use Rattle.conditions.specs.Conditions.{missing, moved, uneven, narrow, disturbed, wrongPoints, short, leaking, lineAgainst, leastIsokinetic, greatestIsokinetic, unsteady, lacking, negative}
 use Rattle.rules.specs.declared.Beside.{Beside}
 
--- The table: what each of the twenty goes by, of its part and of what stands beside it; line 6 is present only where line 3 is not 0 and Y is known
-unfoldable pub grounds : Part → Beside → List Ground
-grounds part b =
-    missing (b .chosen .before)  -- 1
-    ∷ missing (b .chosen .pitot)  -- 2
-    ∷ missing (b .chosen .nozzle)  -- 3
-    ∷ missing (b .chosen .after)  -- 4
-    ∷ moved (b .chosen .before) (b .chosen .after)  -- 5
-    ∷ uneven (b .chosen .nozzle)  -- 6
-    ∷ narrow (b .site)  -- 7
-    ∷ disturbed (b .site)  -- 8
-    ∷ wrongPoints (b .site .shape) (b .least) (b .counts .points)  -- 9
-    ∷ short part  -- 10
-    ∷ leaking (b .lines .metering .time) (b .lines .metering .volume) part  -- 11
-    ∷ lineAgainst (Known (b .lines .metering .corrected)) Same 0  -- 12
-    ∷ lineAgainst (b .lines .metering .dry) Same 0  -- 13
-    ∷ lineAgainst (b .lines .stack .velocity) Same 0  -- 14
-    ∷ lineAgainst (b .lines .sampling .isokinetic) Below leastIsokinetic  -- 15
-    ∷ lineAgainst (b .lines .sampling .isokinetic) Above greatestIsokinetic  -- 16
-    ∷ unsteady part  -- 17
-    ∷ lacking (b .filters)  -- 18
-    ∷ lacking (b .rinses)  -- 19
-    ∷ negative (b .lines .sampling .catch)  -- 20
+-- a rule: its number, and what it goes by
+pub record Rule : Type 0 where
+  pub number : ℕ
+  pub ground : Ground
+
+infixl 50 _goesBy_
+abbrev pub _goesBy_ : ℕ → Ground → Rule
+number goesBy ground = record { number = number; ground = ground }
+
+-- The table: what each rule goes by, of its part and of what stands beside it; the number 13 is given to none
+unfoldable pub table : Part → Beside → List Rule
+table part b =
+    (1 goesBy missing (b .chosen .before))
+    ∷ (2 goesBy missing (b .chosen .pitot))
+    ∷ (3 goesBy missing (b .chosen .nozzle))
+    ∷ (4 goesBy missing (b .chosen .after))
+    ∷ (5 goesBy moved (b .chosen .before) (b .chosen .after))
+    ∷ (6 goesBy uneven (b .chosen .nozzle))
+    ∷ (7 goesBy narrow (b .site))
+    ∷ (8 goesBy disturbed (b .site))
+    ∷ (9 goesBy wrongPoints (b .site .shape) (b .least) (b .counts .points))
+    ∷ (10 goesBy short part)
+    ∷ (11 goesBy leaking (b .lines .metering .time) (b .lines .metering .volume) part)
+    ∷ (12 goesBy lineAgainst (Known (b .lines .metering .corrected)) Same 0)
+    ∷ (14 goesBy lineAgainst (b .lines .stack .velocity) Same 0)
+    ∷ (15 goesBy lineAgainst (b .lines .sampling .isokinetic) Below leastIsokinetic)
+    ∷ (16 goesBy lineAgainst (b .lines .sampling .isokinetic) Above greatestIsokinetic)
+    ∷ (17 goesBy unsteady part)
+    ∷ (18 goesBy lacking (b .filters))
+    ∷ (19 goesBy lacking (b .rinses))
+    ∷ (20 goesBy negative (b .lines .sampling .catch))
     ∷ []
 
--- how many rules there are
-abbrev pub ruleCount : ℕ
-ruleCount = 20
+-- the highest number of a rule
+abbrev pub lastRule : ℕ
+lastRule = 20
 
--- what a rule goes by: rule 1 is the first row
+-- of a table, what the rule of a number goes by; a number without a rule goes by nothing
+abbrev pub groundIn : List Rule → ℕ → Ground
+groundIn [] n = Silent
+groundIn (rule ∷ rules) n = cond (eqb n (rule .number)) (rule .ground) (groundIn rules n)
+
+-- what a rule goes by
 unfoldable pub groundOf : Part → Beside → ℕ → Ground
-groundOf part b rule = getD (grounds part b) (rule - 1) Silent
+groundOf part b rule = groundIn (table part b) rule
 
--- one of the twenty rules, beside lines that are small enough to compare
-pub record Judgeable (b : Beside) (rule : ℕ) : Type 0 where
-  pub first : 1 ≤ rule
-  pub last : rule ≤ ruleCount
+-- beside lines that are small enough to compare
+pub record Judgeable (b : Beside) : Type 0 where
   pub time : b .lines .metering .time ≤ greatestTotalSeconds
   pub volume : b .lines .metering .volume ≤ greatestAboveFirst
 

@@ -1,4 +1,4 @@
-// The table of the twenty rules: what each goes by, from the part that it looks at and from what it may see beside it; of what
+// The table of the rules: what each goes by, from the part that it looks at and from what it may see beside it; of what
 // places it speaks, and its class. Relies on the conditions.
 
 use certs::Chosen;
@@ -25,8 +25,8 @@ use values::Value;
 ghost use mathlib.Core.Path.{_≡_};
 ghost use Rattle.rules.specs.Rules.{groundOf, placesOf, placeAt, classOf, Judgeable};
 
-// How many rules there are.
-pub const RULES: u8 = 20;
+// The highest number of a rule.
+pub const LAST_RULE: u8 = 20;
 
 // The classes of findings.
 pub const FAULT: u8 = 1;
@@ -45,9 +45,9 @@ pub struct Beside {
     pub least: u64,
 }
 
-// The table: what a rule goes by, of its part and of what stands beside it.
+// The table: what a rule goes by, of its part and of what stands beside it. A number that is not in it is of no rule.
 pub fn ground_of(part: Part, beside: Beside, rule: u8) -> Ground
-    requires { ⌜ Judgeable beside rule ⌝ }
+    requires { ⌜ Judgeable beside ⌝ }
     ensures { λ r. ⌜ r ≡ groundOf part beside rule ⌝ }
 {
     let chosen = beside.chosen;
@@ -57,7 +57,6 @@ pub fn ground_of(part: Part, beside: Beside, rule: u8) -> Ground
     let nozzle = chosen.nozzle;
     let lines = beside.lines;
     let metering = lines.metering;
-    let dry = metering.dry;
     let stack = lines.stack;
     let velocity = stack.velocity;
     let sampling = lines.sampling;
@@ -75,14 +74,14 @@ pub fn ground_of(part: Part, beside: Beside, rule: u8) -> Ground
         10 => short(part),
         11 => leaking(metering.time, metering.volume, part),
         12 => line_against(Value::Known(metering.corrected), Way::Same, 0),
-        13 => line_against(dry, Way::Same, 0),
         14 => line_against(velocity, Way::Same, 0),
         15 => line_against(isokinetic, Way::Below, Isokinetic::LEAST),
         16 => line_against(isokinetic, Way::Above, Isokinetic::GREATEST),
         17 => unsteady(part),
         18 => lacking(beside.filters),
         19 => lacking(beside.rinses),
-        _ => negative(sampling.catch),
+        20 => negative(sampling.catch),
+        _ => Ground::Silent,
     }
 }
 

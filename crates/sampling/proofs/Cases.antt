@@ -59,10 +59,6 @@ pub concentration-negative : {z : ℤ} {n : ℕ} (dry : Value) → z ≡ negsuc 
 unfolding concentration
 concentration-negative dry e = rw e
 
-pub concentration-zero : {z : ℤ} {n d : ℕ} {dry : Value} → z ≡ pos n → dry ≡ Known d → d ≡ 0 → concentration z dry ≡ Missing
+pub concentration-known : {z : ℤ} {n d : ℕ} {dry : Value} → z ≡ pos n → dry ≡ Known d → concentration z dry ≡ Known (roundDiv (154300 * n) d)
 unfolding concentration
-concentration-zero e f h = rw (e, f) (unless-zero _ h)
-
-pub concentration-known : {z : ℤ} {n d : ℕ} {dry : Value} → z ≡ pos n → dry ≡ Known d → (d ≡ 0 → ⊥) → concentration z dry ≡ Known (roundDiv (154300 * n) d)
-unfolding concentration
-concentration-known {d = d} e f some = rw (e, f) (unless-some d _ some)
+concentration-known e f = rw (e, f)

@@ -52,11 +52,11 @@ tares weighings n = sumTo (λ i. getD weighings i noWeighing .tare) n
 unfoldable pub catch : List Weighing → ℕ → Acetone → ℤ
 catch weighings n acetone = subℕ (finalWeights weighings n) (tares weighings n + deduction acetone)
 
--- Line 20. Concentration, 0.00001 gr/dscf: absent where line 6 is absent or 0, and where line 19 is negative
+-- Line 20. Concentration, 0.00001 gr/dscf: absent where line 19 is negative
 unfoldable pub concentration : ℤ → Value → Value
 concentration (negsuc c) dry = Missing
 concentration (pos c) Missing = Missing
-concentration (pos c) (Known dry) = unlessZero dry (roundDiv (154300 * c) dry)
+concentration (pos c) (Known dry) = Known (roundDiv (154300 * c) dry)
 
 -- Lines 16 to 20 of a run whose lines 1 to 15 are worked
 unfoldable pub sampling : Run → Metering → Stack → Diameters → Sampling

@@ -14,6 +14,7 @@ ghost use Prim.Native.Nat.{_≤_};
 ghost use Rattle.readings.specs.Ranges.{leastSeconds, greatestTotalSeconds};
 ghost use Rattle.records.specs.InRange.{AcetoneOk};
 ghost use Rattle.values.specs.Promise.{Is, IsValue, Between, DiametersOk};
+ghost use Rattle.metering.specs.Promise.{leastDryVolume, greatestDryVolume};
 ghost use Rattle.sampling.specs.Sampling.{nozzleArea, drawnGas, isokinetic, deduction, catch, concentration};
 ghost use Rattle.sampling.specs.Promise.{WeighingsOk, AreWeighingSums, CatchOk, IsCatch};
 
@@ -40,7 +41,7 @@ pub fn nozzle_area(nozzle: Diameters) -> Value
 
 // Line 17.
 pub fn drawn_gas(dry: Value, vapor: u64, pressure: u64, temperature: u64) -> Value
-    requires { ⌜ Between 0 1411876 dry ⌝ }
+    requires { ⌜ Between leastDryVolume greatestDryVolume dry ⌝ }
     requires { ⌜ (vapor ≤ 94140) × (177941 ≤ pressure) × (pressure ≤ 342059) × (temperature ≤ 24600) ⌝ }
     ensures { λ r. ⌜ IsValue 0 19675261 (drawnGas dry vapor pressure temperature) r ⌝ }
 {
@@ -124,16 +125,13 @@ pub fn catch(
 // Line 20, 0.00001 gr/dscf.
 pub fn concentration(caught: i64, dry: Value) -> Value
     requires { ⌜ CatchOk caught ⌝ }
-    requires { ⌜ Between 0 1411876 dry ⌝ }
+    requires { ⌜ Between leastDryVolume greatestDryVolume dry ⌝ }
     ensures { λ r. ⌜ IsValue 0 4937600000000 (concentration caught dry) r ⌝ }
 {
     let Value::Known(volume) = dry else {
         return Value::Missing;
     };
     if caught < 0 {
-        return Value::Missing;
-    }
-    if volume == 0 {
         return Value::Missing;
     }
     Value::Known(round_div(154300 * (caught as u64), volume))

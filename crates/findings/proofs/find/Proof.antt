@@ -14,7 +14,7 @@ use Rattle.records.specs.declared.Weighing.{Weighing}
 use Rattle.records.specs.declared.RunHeader.{RunHeader}
 use Rattle.rules.specs.declared.Beside.{Beside}
 use Rattle.conditions.specs.Grounds.{broken}
-use Rattle.rules.specs.Rules.{ruleCount, groundOf, placesOf}
+use Rattle.rules.specs.Rules.{lastRule, groundOf, placesOf}
 use Rattle.findings.specs.Listing.{partOf, brokenAt, findings, findingsTo, ruleFindings, mostFindings}
 use Rattle.arrays.proofs.Filled.{filled-none}
 use Rattle.findings.proofs.Filling.{Entered, entered-first, entered-room, entered-found, entered-passed, entered-rule, entered-listed, rule-none}
@@ -39,11 +39,11 @@ abbrev μ-loop2 : tie.MeasureT-loop2
 
 abbrev Inv-loop : tie.InvT-loop
 Inv-loop header points segments weighings beside list₀ count₀ done₀ list count done =
-    (done ≤ ruleCount)
+    (done ≤ lastRule)
     × Entered (findingsTo (brokenIn header points segments weighings beside) (placesOf (header .counts)) done) count list
 
 abbrev μ-loop : tie.MeasureT-loop
-μ-loop header points segments weighings beside list₀ count₀ done₀ list count done = ruleCount - done
+μ-loop header points segments weighings beside list₀ count₀ done₀ list count done = lastRule - done
 
 beside-of-requires : tie.Need-beside-of-requires Inv-loop2 μ-loop2 Inv-loop μ-loop
 beside-of-requires c κs = weighings-in _ _ _ (c .before .before .before .before .pre)
@@ -102,10 +102,10 @@ passed t = t .before .loop2 .i
 abbrev isBroken : Begun → ℕ → ℕ → Bool
 isBroken b rule i = broken (groundOf (partOf (start b .args .run) rule i) (b .beside-of .result) rule)
 
-fits : (b : Begun) → length (findingsTo (isBroken b) (placesOf (start b .args .run .header .counts)) ruleCount) ≤ mostFindings
+fits : (b : Begun) → length (findingsTo (isBroken b) (placesOf (start b .args .run .header .counts)) lastRule) ≤ mostFindings
 fits b = all-fit-beside _ _ _ (start b .pre) (b .beside-of .ensures)
 
-rule-in : (t : Turn) → done t < ruleCount
+rule-in : (t : Turn) → done t < lastRule
 rule-in t = omega (arith, t .before .before .before .loop-test .taken)
 
 place-in : (t : Turn) → passed t < placesOf (start (begun t) .args .run .header .counts) (done t + 1)
@@ -132,7 +132,7 @@ part-is c =
 ground-of-requires : tie.Need-ground-of-requires Inv-loop2 μ-loop2 Inv-loop μ-loop
 ground-of-requires c κs =
     let b = begun (c .before) in
-    judgeable _ _ _ (start b .pre) (omega arith) (omega (arith, rule-in (c .before))) (b .beside-of .ensures)
+    judgeable _ _ _ (start b .pre) (b .beside-of .ensures)
 
 broken-requires : tie.Need-broken-requires Inv-loop2 μ-loop2 Inv-loop μ-loop
 broken-requires c κs = search needs
@@ -192,7 +192,7 @@ loop-again c =
 returns : tie.Need-returns Inv-loop2 μ-loop2 Inv-loop μ-loop
 unfolding findings brokenAt
 returns c =
-    let end : c .before .loop .done ≡ ruleCount = omega arith in
+    let end : c .before .loop .done ≡ lastRule = omega arith in
     entered-listed (rw (end, c .before .before .beside-of .ensures) at (c .before .loop .inv .1))
 
 pub find-spec : {M : Type 1} → statement M

@@ -1,13 +1,12 @@
 -- `ground_of` is `groundOf`, row by row; line 19 is read back from its bits.
-use mathlib.Core.Path.{_≡_, _∙_, ap}
-use native.Mathlib.Nat.{le-antisymm}
+use mathlib.Core.Path.{_∙_, ap}
 use mir.Facts.{toZ-ofZ}
 use mir.Syntax.{w64}
 use mir.Val.{SFits}
 use borrow.Author.Needs.{needs}
 use Rattle.conditions.specs.Conditions.{negative}
-use Rattle.rules.specs.Rules.{grounds, groundOf}
-use Rattle.rules.proofs.Table.{past-all}
+use Rattle.rules.specs.Rules.{table, groundOf}
+use Rattle.rules.proofs.Table.{no-rule}
 use Rattle.rules.proofs.ground_of.Statement.{statement}
 use Rattle.rules.proofs.ground_of.Tie as tie
 
@@ -56,9 +55,6 @@ line-against-requires-3 c κs = search needs
 line-against-requires-4 : tie.Need-line-against-requires-4
 line-against-requires-4 c κs = search needs
 
-line-against-requires-5 : tie.Need-line-against-requires-5
-line-against-requires-5 c κs = search needs
-
 unsteady-requires : tie.Need-unsteady-requires
 unsteady-requires c κs = search needs
 
@@ -72,88 +68,89 @@ negative-requires : tie.Need-negative-requires
 negative-requires c κs = search needs
 
 returns : tie.Need-returns
-unfolding groundOf grounds
+unfolding groundOf table
 returns c = rw (c .before .match .keys1) (c .missing .ensures)
 
 returns-2 : tie.Need-returns-2
-unfolding groundOf grounds
+unfolding groundOf table
 returns-2 c = rw (c .before .match .keys2) (c .missing2 .ensures)
 
 returns-3 : tie.Need-returns-3
-unfolding groundOf grounds
+unfolding groundOf table
 returns-3 c = rw (c .before .match .keys3) (c .missing3 .ensures)
 
 returns-4 : tie.Need-returns-4
-unfolding groundOf grounds
+unfolding groundOf table
 returns-4 c = rw (c .before .match .keys4) (c .missing4 .ensures)
 
 returns-5 : tie.Need-returns-5
-unfolding groundOf grounds
+unfolding groundOf table
 returns-5 c = rw (c .before .match .keys5) (c .moved .ensures)
 
 returns-6 : tie.Need-returns-6
-unfolding groundOf grounds
+unfolding groundOf table
 returns-6 c = rw (c .before .match .keys6) (c .uneven .ensures)
 
 returns-7 : tie.Need-returns-7
-unfolding groundOf grounds
+unfolding groundOf table
 returns-7 c = rw (c .before .match .keys7) (c .narrow .ensures)
 
 returns-8 : tie.Need-returns-8
-unfolding groundOf grounds
+unfolding groundOf table
 returns-8 c = rw (c .before .match .keys8) (c .disturbed .ensures)
 
 returns-9 : tie.Need-returns-9
-unfolding groundOf grounds
+unfolding groundOf table
 returns-9 c = rw (c .before .match .keys9) (c .wrong-points .ensures)
 
 returns-10 : tie.Need-returns-10
-unfolding groundOf grounds
+unfolding groundOf table
 returns-10 c = rw (c .before .match .keys10) (c .short .ensures)
 
 returns-11 : tie.Need-returns-11
-unfolding groundOf grounds
+unfolding groundOf table
 returns-11 c = rw (c .before .match .keys11) (c .leaking .ensures)
 
 returns-12 : tie.Need-returns-12
-unfolding groundOf grounds
+unfolding groundOf table
 returns-12 c = rw (c .before .match .keys12) (c .line-against .ensures)
 
 returns-13 : tie.Need-returns-13
-unfolding groundOf grounds
+unfolding groundOf table
 returns-13 c = rw (c .before .match .keys13) (c .line-against2 .ensures)
 
 returns-14 : tie.Need-returns-14
-unfolding groundOf grounds
+unfolding groundOf table
 returns-14 c = rw (c .before .match .keys14) (c .line-against3 .ensures)
 
 returns-15 : tie.Need-returns-15
-unfolding groundOf grounds
+unfolding groundOf table
 returns-15 c = rw (c .before .match .keys15) (c .line-against4 .ensures)
 
 returns-16 : tie.Need-returns-16
-unfolding groundOf grounds
-returns-16 c = rw (c .before .match .keys16) (c .line-against5 .ensures)
+unfolding groundOf table
+returns-16 c = rw (c .before .match .keys16) (c .unsteady .ensures)
 
 returns-17 : tie.Need-returns-17
-unfolding groundOf grounds
-returns-17 c = rw (c .before .match .keys17) (c .unsteady .ensures)
+unfolding groundOf table
+returns-17 c = rw (c .before .match .keys17) (c .lacking .ensures)
 
 returns-18 : tie.Need-returns-18
-unfolding groundOf grounds
-returns-18 c = rw (c .before .match .keys18) (c .lacking .ensures)
+unfolding groundOf table
+returns-18 c = rw (c .before .match .keys18) (c .lacking2 .ensures)
 
 returns-19 : tie.Need-returns-19
-unfolding groundOf grounds
-returns-19 c = rw (c .before .match .keys19) (c .lacking2 .ensures)
+unfolding groundOf table
+returns-19 c =
+    let start = c .before .before .before .before .before .before .before .before in
+    let catch : SFits w64 (start .args .beside .lines .sampling .catch) = record { sfits = c .before .struct-told .given .1 .1 .1 .0 .1 } in
+    rw (c .before .before .match .keys19) (c .negative .ensures ∙ ap negative (toZ-ofZ catch))
 
 returns-20 : tie.Need-returns-20
-unfolding groundOf grounds
+unfolding groundOf table
 returns-20 c =
-    let start = c .before .before .before .before .before .before .before .before in
-    let last : start .args .rule ≡ 20 = le-antisymm (start .pre .last) (past-all _ 19 (start .pre .first) (c .before .before .match .rest)) in
-    let catch : SFits w64 (start .args .beside .lines .sampling .catch) = record { sfits = c .before .struct-told .given .1 .1 .1 .0 .1 } in
-    rw last (c .negative .ensures ∙ ap negative (toZ-ofZ catch))
+    let args = c .before .before .before .before .before .before .args in
+    no-rule (table (args .part) (args .beside)) (args .rule) Unit (c .match .rest) .0
 
 pub ground-of-spec : {M : Type 1} → statement M
 ground-of-spec =
@@ -174,7 +171,6 @@ ground-of-spec =
     line-against-requires-2
     line-against-requires-3
     line-against-requires-4
-    line-against-requires-5
     unsteady-requires
     lacking-requires
     lacking-requires-2

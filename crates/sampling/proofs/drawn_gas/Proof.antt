@@ -1,6 +1,7 @@
 -- Line 17. Missing without line 6; else the rounded quotient.
 use borrow.Author.Needs.{needs}
 use native.Mathlib.Omega.{arith}
+use Rattle.metering.specs.Promise.{greatestDryVolume}
 use Rattle.values.proofs.Promise.{rounded, is-missing, is-known}
 use Rattle.sampling.proofs.Cases.{drawn-missing, drawn-known}
 use Rattle.sampling.proofs.Products.{drawn-numerator}
@@ -8,7 +9,7 @@ use Prim.Native.Nat.{_+_, _*_, _≤_}
 use Rattle.sampling.proofs.drawn_gas.Statement.{statement}
 use Rattle.sampling.proofs.drawn_gas.Tie as tie
 
-volume-most : (c : tie.After-known-told) → c .before .dry .given .0 .0 ≤ 1411876
+volume-most : (c : tie.After-known-told) → c .before .dry .given .0 .0 ≤ greatestDryVolume
 volume-most c = c .before .before .before .pre .0 .known _ (c .before .dry .given .1) .1
 
 numerator-most : (c : tie.After-known-told) → 945 * c .before .before .before .args .temperature * (c .before .dry .given .0 .0 + c .before .before .before .args .vapor) ≤ 35010353952000

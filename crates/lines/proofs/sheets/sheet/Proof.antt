@@ -3,6 +3,7 @@ use borrow.Author.Needs.{needs}
 use native.Mathlib.Omega.{arith}
 use mathlib.Core.List.{[], _∷_}
 use mir.Facts.{toZ-ofZ}
+use Rattle.values.specs.Signed.{addScaled}
 use Rattle.sampling.proofs.Difference.{catch-fits}
 use Rattle.lines.specs.declared.Line.the-variants.{Present}
 use Rattle.lines.specs.Sheet.{sheet}
@@ -23,6 +24,7 @@ always-requires-4 : tie.Need-always-requires-4
 always-requires-4 c κs = search needs
 
 always-requires-5 : tie.Need-always-requires-5
+unfolding addScaled
 always-requires-5 c κs = search needs
 
 if-known-requires : tie.Need-if-known-requires
