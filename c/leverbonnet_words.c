@@ -58,7 +58,6 @@ static const struct {
     {10, "the point was sampled for less than 120 seconds", "point"},
     {11, "the leak rate is above the allowance", "segment"},
     {12, "the corrected volume, line 3, is 0", ""},
-    {13, "the dry standard volume, line 6, is 0", ""},
     {14, "the velocity, line 15, is 0", ""},
     {15, "the percent isokinetic, line 18, is below 90 percent", ""},
     {16, "the percent isokinetic, line 18, is above 110 percent", ""},

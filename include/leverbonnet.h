@@ -79,9 +79,9 @@ extern "C" {
  * lines: 20 lines of 9 bytes, line 1 first: one byte, 1 if the line is present
  * and 0 if it is absent, then its value as a signed 64-bit number (0 if absent).
  *
- * findings: 4 bytes each, by rule and then place: the rule (1 to 20), the class
- * (1 fault, 2 note), the place as 16 bits: a point, segment or weighing counted
- * from 1, or 0 for the whole run.
+ * findings: 4 bytes each, by rule and then place: the rule (1 to 20; no rule has
+ * the number 13), the class (1 fault, 2 note), the place as 16 bits: a point,
+ * segment or weighing counted from 1, or 0 for the whole run.
  *
  * Succeeds with the number of findings, plus LEVERBONNET_ACCEPTED if none is a
  * fault. Answers 9 if lines_len is below 180 or findings_len below 4 bytes for

@@ -79,7 +79,8 @@ fn sections(proved: &Proved, sheet: Option<&CommandLine>) -> Result<Vec<String>,
     let extent = proved.extent();
     let mut all = Tally::default();
 
-    let worked = std::iter::once(cases::worked::whole())
+    let worked = [cases::worked::whole(), cases::worked::thinnest()]
+        .into_iter()
         .chain(cases::worked::truncations())
         .chain(cases::worked::changes(extent.every_value));
     all.add(&Section::new("worked job").library(proved, worked)?);

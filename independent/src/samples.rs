@@ -98,6 +98,25 @@ fn worked_run() -> Run {
     }
 }
 
+/// The worked run in the corner of the ranges where a metered thousandth of a
+/// cubic foot, the least there is, becomes the least dry gas.
+pub fn thinnest() -> Job {
+    let mut job = worked();
+    for meter in &mut job.certificates[..2] {
+        meter.values[0] = 9_000;
+    }
+    let run = &mut job.runs[0];
+    run.barometer = 2_000;
+    run.last_reading = run.first_reading + 1;
+    run.segments[0].leak = 0;
+    for point in &mut run.points {
+        point.orifice_head = 0;
+        point.meter_inlet = 1_500;
+        point.meter_outlet = 1_500;
+    }
+    job
+}
+
 /// Accepted and void runs side by side. Two makers' meters share the serial
 /// 10442, so that a reader can see the maker count.
 pub fn several_runs() -> Job {

@@ -51,6 +51,16 @@ fn leaks_drawing_more_than_was_metered_leave_nothing() {
     assert!(found(&worked, 12));
 }
 
+#[test]
+fn the_least_dry_volume_is_not_0() {
+    let job = samples::thinnest();
+    let worked = work(&job.runs[0], &job.certificates);
+    let lines: Vec<_> = (3..=6).map(|line| worked.lines.line(line)).collect();
+    // 1764·1·9000·200000/(10^9·6100) is 0.52.
+    assert_eq!(lines, [1, 200_000, 6_100, 1].map(Some));
+    assert!(worked.lines.line(8).is_some() && worked.lines.line(20).is_some());
+}
+
 /// (note 5 found, line 6) with that after factor, the before factor 10,000.
 fn with_after_factor(factor: u16) -> (bool, Option<i64>) {
     let worked = worked_with(|job| job.certificates[1].values[0] = factor);

@@ -88,7 +88,6 @@ pub const RULES: &[RuleText] = &[
     a_rule(10, "point", "the point was sampled for less than 120 seconds"),
     a_rule(11, "segment", "the leak rate is above the allowance"),
     a_rule(12, "", "the corrected volume, line 3, is 0"),
-    a_rule(13, "", "the dry standard volume, line 6, is 0"),
     a_rule(14, "", "the velocity, line 15, is 0"),
     a_rule(15, "", "the percent isokinetic, line 18, is below 90 percent"),
     a_rule(16, "", "the percent isokinetic, line 18, is above 110 percent"),

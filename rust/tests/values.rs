@@ -1,7 +1,7 @@
 //! The values to try a program on of docs/RULES.md that no theorem has: layouts,
-//! and the worked job made bad.
+//! the worked job with the least gas, and the worked job made bad.
 
-use leverbonnet::{rect_distances, round_distances, run_numbers, Error};
+use leverbonnet::{rect_distances, reduce_run, round_distances, run_numbers, Error};
 
 const WORKED: &[u8] = include_bytes!("../../examples/worked.job");
 
@@ -36,6 +36,25 @@ fn round_layouts() {
 fn a_rectangular_layout() {
     let laid_out = rect_distances(9, 125, 301).unwrap();
     assert_eq!(laid_out[..3], [[2083, 5017], [6250, 5017], [10417, 5017]]);
+}
+
+#[test]
+fn the_least_dry_volume() {
+    let mut job = with(110, &100_001u32.to_le_bytes());
+    let mut put = |place: usize, value: u16| {
+        job[place..place + 2].copy_from_slice(&value.to_le_bytes());
+    };
+    for (place, value) in [(19, 9_000), (35, 9_000), (98, 2_000), (235, 0)] {
+        put(place, value);
+    }
+    for point in (137..233).step_by(12) {
+        put(point + 4, 0);
+        put(point + 8, 1_500);
+        put(point + 10, 1_500);
+    }
+    let lines = reduce_run(&job, 7).unwrap().lines;
+    let values: Vec<_> = lines[2..6].iter().map(|line| line.value).collect();
+    assert_eq!(values, [1, 200_000, 6_100, 1].map(Some));
 }
 
 #[test]

@@ -1,4 +1,5 @@
-//! The worked job: itself, each of its truncations, and each change of one byte.
+//! The worked job: itself, with the least gas, each of its truncations, and each
+//! change of one byte.
 
 use independent::samples;
 
@@ -7,6 +8,11 @@ use crate::case::{Case, Change, Expected};
 pub fn whole() -> Case {
     let name = "the worked job".into();
     Case::of_job(name, samples::worked(), Expected::Read)
+}
+
+pub fn thinnest() -> Case {
+    let name = "the worked job with the least gas".into();
+    Case::of_job(name, samples::thinnest(), Expected::Read)
 }
 
 /// Every shorter file, the empty one included.
