@@ -6,8 +6,8 @@ use native.Mathlib.Omega.{arith}
 use borrow.Author.Tests.{eq-eqb, ne-eqb, eqb-true, eqb-false}
 use lib.Dec.{eqb}
 use Rattle.readings.specs.Ranges.{roundShape}
-use Rattle.readings.specs.Grids.{gridPoints, nextGrid}
-use Rattle.readings.proofs.Grids.{grid-exactly}
+use Rattle.grids.specs.Grids.{gridPoints, nextGrid}
+use Rattle.grids.proofs.Grids.{grid-exactly}
 use Rattle.certs.specs.declared.comparison.Way.the-variants.{Differs}
 use Rattle.certs.specs.Comparing.{holds, compare}
 use Rattle.conditions.specs.Conditions.{nextAllowed}

@@ -4,7 +4,7 @@
 use crate::grounds::Ground;
 use certs::comparison::Comparison;
 use certs::comparison::Way;
-use readings::layouts::GridPoints;
+use grids::GridPoints;
 use readings::runs::Shape;
 use records::Site;
 ghost use mathlib.Core.Path.{_≡_};

@@ -3,7 +3,7 @@ use mathlib.Core.Path.{_≡_, refl}
 use lib.IntN.{pos}
 use lib.ListN.{length, replicate, getD-replicate}
 use Rattle.readings.specs.Ranges.{within, signedWithin, leastRunNumber, leastBarometer, rectangularShape, leastSide, leastBlankVolume, leastAcetoneDensity, greatestPointCount, greatestSegmentCount, greatestWeighingCount, leastSeconds, filterKind}
-use Rattle.readings.specs.Grids.{nextOf, nextGrid}
+use Rattle.grids.specs.Grids.{nextOf, nextGrid}
 use Rattle.records.specs.declared.Identity.{Identity}
 use Rattle.records.specs.declared.Point.{Point}
 use Rattle.records.specs.declared.Segment.{Segment}

@@ -3,7 +3,7 @@ use mathlib.Core.Path.{refl}
 use Rattle.arith.specs.Root.{grown, floorRoot, nearestRoot}
 use Rattle.arith.specs.Rounding.{roundDiv}
 use Rattle.readings.specs.Ranges.{within, signedWithin}
-use Rattle.readings.specs.Grids.{nextOf, nextGrid}
+use Rattle.grids.specs.Grids.{nextOf, nextGrid}
 use Rattle.records.specs.Records.{sameIdentity, sumTo}
 use Rattle.metering.specs.Metering.{time, meteredVolume, allowance, leakLoss, leakLosses, correctedVolume, meanOrifice, meterPressure, meterTemperature, dryVolume, waterVapor, moisture, metering}
 use Rattle.values.specs.Promise.{unlessZero}

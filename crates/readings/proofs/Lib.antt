@@ -1,5 +1,4 @@
 -- The laws of the ranges, which the layers above cite.
 pub mod EarlyAnswers
 pub mod Ranges
-pub mod Grids
 pub mod LeastVolume

@@ -1,3 +1,2 @@
--- The ranges of docs/RULES.md, one for each kind of reading, and the grids.
+-- The ranges of docs/RULES.md, one for each kind of reading.
 pub mod Ranges
-pub mod Grids

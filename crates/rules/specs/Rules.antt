@@ -4,7 +4,7 @@ use mathlib.Core.Bool.{cond}
 use mathlib.Core.List.{List, [], _∷_}
 use lib.Dec.{eqb}
 use Rattle.readings.specs.Ranges.{greatestAboveFirst, greatestTotalSeconds}
-use Rattle.readings.specs.Grids.{oneOf}
+use Rattle.grids.specs.Grids.{oneOf}
 use Rattle.records.specs.declared.Counts.{Counts}
 use Rattle.values.specs.declared.Value.the-variants.{Known}
 use Rattle.certs.specs.declared.comparison.Way.the-variants.{Below, Above, Same}

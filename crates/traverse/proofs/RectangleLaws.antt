@@ -10,7 +10,7 @@ use lib.Dec.{leb, ltb, eqb}
 use Rattle.arith.specs.Rounding.{roundDiv}
 use Rattle.arith.proofs.Rounding.{round-is, round-le, le-round}
 use Rattle.readings.specs.Ranges.{side, leastSide, greatestSide}
-use Rattle.readings.specs.Grids.{gridNumbers, gridPoints}
+use Rattle.grids.specs.Grids.{gridNumbers, gridPoints}
 use Rattle.readings.proofs.Ranges.{both-left, both-right, within-least, within-greatest}
 use Rattle.traverse.specs.Rectangle.{rectangleFits, wideEnough, gridOf, firstCells, secondCells, center}
 use Rattle.traverse.proofs.Tests.{allOf, all-of}

@@ -5,7 +5,7 @@ use mathlib.Core.List.{List, [], _∷_}
 use lib.Dec.{leb, eqb}
 use Rattle.arith.specs.Rounding.{roundDiv}
 use Rattle.readings.specs.Ranges.{side, leastLayoutDiameter}
-use Rattle.readings.specs.Grids.{Grid, _by_, grids, gridPoints}
+use Rattle.grids.specs.Grids.{Grid, _by_, grids, gridPoints}
 use Rattle.traverse.specs.Layout.{eachTo}
 
 -- a rectangle's diameter 2LW/(L+W) is 12 in or more

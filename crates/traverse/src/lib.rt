@@ -1,13 +1,13 @@
 // Traverse layouts: where on a diameter, or in the cells of a rectangle, the points of a stack are sampled.
-// Relies on rounded division and the nearest root, and on the ranges of the readings; knows nothing of a job.
+// Relies on rounded division and the nearest root, and on the grids and the ranges of the readings; knows nothing of a job.
 
+use crate::cells::center;
+use crate::cells::first_cells;
+use crate::cells::second_cells;
 use crate::diameters::distance;
-use crate::grids::center;
-use crate::grids::first_cells;
-use crate::grids::second_cells;
+use grids::GridPoints;
 use readings::certificates::NozzleDiameter;
 use readings::layouts::DiameterPoints;
-use readings::layouts::GridPoints;
 use readings::layouts::LayoutDiameter;
 use readings::runs::Side;
 ghost use mathlib.Core.Path.{_≡_};
@@ -16,8 +16,8 @@ ghost use Rattle.traverse.specs.Layout.{IsLayout};
 ghost use Rattle.traverse.specs.Round.{roundFits, roundLayout};
 ghost use Rattle.traverse.specs.Rectangle.{rectangleFits, rectangleLayout};
 
+mod cells;
 mod diameters;
-mod grids;
 
 // The most distances of a layout: two for each of 49 points.
 pub const MOST_DISTANCES: usize = 98;

@@ -7,7 +7,7 @@ use borrow.Author.Tests.{not-true, not-false}
 use native.Mathlib.Nat.{mul-le-mul}
 use native.Mathlib.Omega.{arith}
 use Rattle.readings.specs.Ranges.{side}
-use Rattle.readings.specs.Grids.{gridPoints}
+use Rattle.grids.specs.Grids.{gridPoints}
 use Rattle.traverse.specs.Rectangle.{rectangleFits, wideEnough}
 use Rattle.readings.proofs.EarlyAnswers.{fails, passes}
 use Rattle.traverse.proofs.rectangle_fits.Statement.{statement}

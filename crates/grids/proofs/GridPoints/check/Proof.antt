@@ -2,9 +2,9 @@
 use mathlib.Core.Path.{_∙_, ap}
 use borrow.Author.Needs.{needs}
 use lib.Dec.{eqb}
-use Rattle.readings.proofs.Grids.{grid-exactly}
-use Rattle.readings.proofs.layouts.GridPoints.check.Statement.{statement}
-use Rattle.readings.proofs.layouts.GridPoints.check.Tie as tie
+use Rattle.grids.proofs.Grids.{grid-exactly}
+use Rattle.grids.proofs.GridPoints.check.Statement.{statement}
+use Rattle.grids.proofs.GridPoints.check.Tie as tie
 
 next-requires : tie.Need-next-requires
 next-requires c κs = search needs

@@ -5,7 +5,7 @@ ghost use mathlib.Core.Path.{_≡_};
 ghost use mathlib.Core.Bool.{true};
 ghost use Prim.Native.Nat.{_≤_};
 ghost use Rattle.readings.specs.Ranges.{leastSide, greatestSide};
-ghost use Rattle.readings.specs.Grids.{gridPoints};
+ghost use Rattle.grids.specs.Grids.{gridPoints};
 ghost use Rattle.traverse.specs.Layout.{AtMost};
 ghost use Rattle.traverse.specs.Rectangle.{gridOf, firstCells, secondCells, center};
 

@@ -2,10 +2,10 @@
 use Prim.Native.Nat.{_≤_, _-_}
 use mathlib.Core.Path.{_≡_, sym}
 use native.Mathlib.Omega.{arith}
-use Rattle.readings.specs.Grids.{gridNumbers, nextOf, nextGrid}
-use Rattle.readings.proofs.Grids.{Passed, passed-none, passed-more, next-found}
-use Rattle.readings.proofs.layouts.GridPoints.next.Statement.{statement}
-use Rattle.readings.proofs.layouts.GridPoints.next.Tie as tie
+use Rattle.grids.specs.Grids.{gridNumbers, nextOf, nextGrid}
+use Rattle.grids.proofs.Grids.{Passed, passed-none, passed-more, next-found}
+use Rattle.grids.proofs.GridPoints.next.Statement.{statement}
+use Rattle.grids.proofs.GridPoints.next.Tie as tie
 
 abbrev Inv-loop : tie.InvT-loop
 Inv-loop n i₀ i = (i ≤ 9) × Passed gridNumbers n i

@@ -3,8 +3,8 @@ use borrow.Author.Needs.{needs}
 use native.Mathlib.Omega.{arith}
 use Rattle.traverse.specs.Rectangle.{center}
 use Rattle.traverse.proofs.RectangleLaws.{center-product, center-high}
-use Rattle.traverse.proofs.grids.center.Statement.{statement}
-use Rattle.traverse.proofs.grids.center.Tie as tie
+use Rattle.traverse.proofs.cells.center.Statement.{statement}
+use Rattle.traverse.proofs.cells.center.Tie as tie
 
 mul-round-div : tie.Need-mul-round-div
 mul-round-div c = search needs

@@ -4,11 +4,11 @@ use mathlib.Core.Path.{_≡_}
 use mathlib.Core.Bool.{true}
 use native.Mathlib.Nat.{mul-le-mul}
 use native.Mathlib.Omega.{arith}
-use Rattle.readings.specs.Grids.{gridPoints}
+use Rattle.grids.specs.Grids.{gridPoints}
 use Rattle.traverse.specs.Rectangle.{gridOf}
 use Rattle.traverse.proofs.RectangleLaws.{grid-ok, count-below, count-reached}
-use Rattle.traverse.proofs.grids.larger_count.Statement.{statement}
-use Rattle.traverse.proofs.grids.larger_count.Tie as tie
+use Rattle.traverse.proofs.cells.larger_count.Statement.{statement}
+use Rattle.traverse.proofs.cells.larger_count.Tie as tie
 
 abbrev Inv-loop : tie.InvT-loop
 Inv-loop points n count₀ count = count ≤ gridOf points .larger

@@ -4,8 +4,8 @@ use mathlib.Core.Path.{_∙_, sym}
 use borrow.Author.Needs.{needs}
 use native.Mathlib.Omega.{arith}
 use Rattle.traverse.proofs.RectangleLaws.{grid-ok, smaller-is, second-longer, second-shorter}
-use Rattle.traverse.proofs.grids.second_cells.Statement.{statement}
-use Rattle.traverse.proofs.grids.second_cells.Tie as tie
+use Rattle.traverse.proofs.cells.second_cells.Statement.{statement}
+use Rattle.traverse.proofs.cells.second_cells.Tie as tie
 
 larger-count-requires : tie.Need-larger-count-requires
 larger-count-requires c κs = search needs

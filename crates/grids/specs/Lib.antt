@@ -1,0 +1,2 @@
+-- The grids of docs/RULES.md.
+pub mod Grids
