@@ -19,9 +19,10 @@ use Rattle.parts.specs.Rows.{pointsTrouble, segmentsTrouble, weighingsTrouble}
 use Rattle.records.specs.declared.Counts.{Counts}
 use Rattle.heads.specs.Rows.{certificateTrouble}
 use Rattle.job.specs.Places.{certificateCountOf, runCountOf, runStart}
-use Rattle.job.specs.Troubles.{fileRows, fileTrouble, sameCertificate, repeats, entryTrouble, certificatesTrouble, goodSeconds, partsTrouble, runTrouble, runsTrouble, numberBefore, endTrouble, jobTrouble}
+use Rattle.entries.specs.Entries.{sameCertificate, repeats, entryTrouble}
+use Rattle.job.specs.Troubles.{fileRows, fileTrouble, certificatesTrouble, goodSeconds, partsTrouble, runTrouble, runsTrouble, numberBefore, endTrouble, jobTrouble}
 use Rattle.findings.proofs.Accepting.{and-false}
-use Rattle.job.proofs.LookBack.{any-stops}
+use Rattle.entries.proofs.LookBack.{any-stops}
 use Rattle.demands.specs.ReadingOrder.{Fixed, fileHeader, oneCertificate, runHeader, onePoint, oneSegment, oneWeighing, numberOf, countsOf, startOf, sizeOf, rowsOf, Complete, Good, totalOfPoints, totalOfSegments, GoodJob, ReachedCertificate, ReachedRun, ReachedParts, Reached}
 use Rattle.demands.specs.Table.{FirstBad, here, later, NotNew, certificateAgain, numberNotAbove, FileRefused, row1, row2, row3, row4, row5, row6, row7, row8}
 use Rattle.demands.proofs.Troubles.{Met, early, late, met, failed, MetIn, met-in, unless-bad, RecordMet, short, bad, record-met, record-short, bad-checks, record-bad}

@@ -11,7 +11,7 @@ use Rattle.fields.specs.declared.trouble.Trouble.{Trouble}
 use Rattle.fields.specs.declared.trouble.Trouble.the-variants.{Clear, At}
 use Rattle.job.specs.Places.{runCountOf, runOf}
 use Rattle.job.specs.Troubles.{jobTrouble}
-use Rattle.job.proofs.LookBack.{or-true}
+use Rattle.entries.proofs.LookBack.{or-true}
 use Rattle.reduction.specs.declared.Which.{Which}
 use Rattle.reduction.specs.declared.Which.the-variants.{Index, NoRun}
 use Rattle.reduction.specs.declared.Reduced.{Reduced}

@@ -10,7 +10,8 @@ use Rattle.arrays.specs.Arrays.{padded}
 use Rattle.heads.specs.Values.{certificateOf}
 use Rattle.parts.specs.Values.{runAt}
 use Rattle.job.specs.Places.{runStart, runOf}
-use Rattle.job.specs.Troubles.{anyTo, partsTrouble, runTrouble, numberBefore, jobTrouble}
+use Rattle.entries.specs.Entries.{anyTo}
+use Rattle.job.specs.Troubles.{partsTrouble, runTrouble, numberBefore, jobTrouble}
 use Rattle.job.specs.Reading.{readJob}
 use Rattle.job.specs.Worked.{workedJob, workedRead, Refusal, refusals}
 

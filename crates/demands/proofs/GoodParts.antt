@@ -22,10 +22,11 @@ use Rattle.heads.specs.Values.{runHeaderSize, certificatePlace}
 use Rattle.parts.specs.Values.{pointPlace, segmentPlace, runAt}
 use Rattle.parts.specs.Rows.{pointsTrouble, segmentsTrouble, weighingsTrouble}
 use Rattle.job.specs.Places.{runCountOf, runStart}
-use Rattle.job.specs.Troubles.{sameCertificate, anyTo, repeats, entryTrouble, goodSeconds, partsTrouble, runTrouble, runsTrouble, numberBefore, jobTrouble}
+use Rattle.entries.specs.Entries.{sameCertificate, anyTo, repeats, entryTrouble}
+use Rattle.job.specs.Troubles.{goodSeconds, partsTrouble, runTrouble, runsTrouble, numberBefore, jobTrouble}
 use Rattle.job.proofs.ClearJobs.{job-clear}
 use Rattle.job.proofs.ClearRuns.{run-clear}
-use Rattle.job.proofs.LookBack.{none-of}
+use Rattle.entries.proofs.LookBack.{none-of}
 use Rattle.demands.specs.ReadingOrder.{Fixed, fileHeader, oneCertificate, runHeader, onePoint, oneSegment, oneWeighing, numberOf, countsOf, startOf, sizeOf, rowsOf, Good, Repeats, GoodCertificate, GoodCertificates, Above, GoodPoints, GoodSegments, GoodWeighings, totalOfPoints, totalOfSegments, GoodRun, GoodRuns, GoodJob}
 use Rattle.demands.proofs.Troubles.{all-clear, unless-good, record-good}
 

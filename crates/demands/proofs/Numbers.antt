@@ -15,7 +15,8 @@ use Rattle.readings.proofs.Ranges.{both-left, both-right}
 use Rattle.heads.specs.Values.{headerAt, certificatePlace, fileHeaderSize, certificateSize, runHeaderSize}
 use Rattle.fields.proofs.RecordTrouble.{told-at}
 use Rattle.job.specs.Places.{runCountOf, runStart}
-use Rattle.job.specs.Troubles.{repeats, goodSeconds, entryTrouble, partsTrouble, numberBefore, runTrouble, jobTrouble}
+use Rattle.entries.specs.Entries.{repeats, entryTrouble}
+use Rattle.job.specs.Troubles.{goodSeconds, partsTrouble, numberBefore, runTrouble, jobTrouble}
 
 abbrev known : ℕ → ℕ → Bool
 known number place = leb 1 number && leb number 8

@@ -24,7 +24,8 @@ use Rattle.arrays.specs.Arrays.{padded, filledTo}
 use Rattle.parts.specs.Values.{runAt}
 use Rattle.job.specs.Places.{runStart}
 use Rattle.job.specs.Reading.{readJob}
-use Rattle.job.specs.Troubles.{anyTo, partsTrouble, runTrouble, numberBefore, jobTrouble}
+use Rattle.entries.specs.Entries.{anyTo}
+use Rattle.job.specs.Troubles.{partsTrouble, runTrouble, numberBefore, jobTrouble}
 use Rattle.reduction.specs.Reducing.{worked, reduction, chosenIn, reducedRun, runNamed}
 use Rattle.output.specs.Answers.{packed}
 use Rattle.output.specs.Bytes.{le, joined}

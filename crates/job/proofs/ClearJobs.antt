@@ -21,9 +21,10 @@ use Rattle.parts.specs.Values.{runAt, RunWithin}
 use Rattle.heads.proofs.InRange.{certificate-ok}
 use Rattle.parts.proofs.InRange.{run-ok}
 use Rattle.job.specs.Places.{certificateCountOf, runCountOf, runStart, runOf}
-use Rattle.job.specs.Troubles.{fileTrouble, sameCertificate, repeats, entryTrouble, certificatesTrouble, numberBefore, runsTrouble, jobTrouble}
+use Rattle.entries.specs.Entries.{sameCertificate, repeats, entryTrouble}
+use Rattle.job.specs.Troubles.{fileTrouble, certificatesTrouble, numberBefore, runsTrouble, jobTrouble}
 use Rattle.job.proofs.ClearRuns.{RunClear, run-clear, run-fits}
-use Rattle.job.proofs.LookBack.{none-of}
+use Rattle.entries.proofs.LookBack.{none-of}
 use Rattle.job.proofs.WholeFile.{certificates-fit}
 
 -- each part of it is clear

@@ -1,6 +1,5 @@
 -- The laws of a job, which the layers above cite.
 pub mod ClearJobs
 pub mod ClearRuns
-pub mod LookBack
 pub mod Reach
 pub mod WholeFile

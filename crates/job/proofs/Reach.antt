@@ -20,7 +20,8 @@ use Rattle.heads.proofs.InRange.{header-ok}
 use Rattle.heads.specs.Values.{headerAt, certificatePlace, fileHeaderSize, certificateSize, runHeaderSize}
 use Rattle.heads.specs.Rows.{headerTrouble}
 use Rattle.job.specs.Places.{runCountOf, runStart, longestRun, longestJob}
-use Rattle.job.specs.Troubles.{fileTrouble, repeats, goodSeconds, entryTrouble, partsTrouble, numberBefore, runTrouble, runsTrouble, jobTrouble}
+use Rattle.entries.specs.Entries.{repeats, entryTrouble}
+use Rattle.job.specs.Troubles.{fileTrouble, goodSeconds, partsTrouble, numberBefore, runTrouble, runsTrouble, jobTrouble}
 use Rattle.job.proofs.ClearRuns.{run-clear}
 use Rattle.job.proofs.WholeFile.{certificate-count, run-count}
 

@@ -18,7 +18,8 @@ use Rattle.heads.specs.Values.{certificatePlace, fileHeaderSize, certificateSiz
 use Rattle.job.specs.declared.Job.{Job}
 use Rattle.job.specs.declared.runs.Walk.{Walk}
 use Rattle.job.specs.Places.{certificateCountOf, runCountOf, runStart}
-use Rattle.job.specs.Troubles.{fileRows, fileTrouble, entryTrouble, runsTrouble, endTrouble, jobTrouble}
+use Rattle.entries.specs.Entries.{entryTrouble}
+use Rattle.job.specs.Troubles.{fileRows, fileTrouble, runsTrouble, endTrouble, jobTrouble}
 use Rattle.job.specs.Walks.{stopped, walkOf, walk}
 use Rattle.job.specs.Reading.{refusedJob, jobOf, readJob}
 

@@ -1,6 +1,6 @@
 -- The first trouble of a job, in the order of docs/RULES.md, Refusals: header, certificates, runs, bytes left over.
 use Prim.Native.Nat.{ℕ, zero, suc, _+_}
-use mathlib.Core.Bool.{Bool, false, not, _&&_, _||_}
+use mathlib.Core.Bool.{Bool, _&&_}
 use mathlib.Core.List.{List, [], _∷_}
 use lib.Dec.{leb, ltb, eqb}
 use lib.ListN.{length}
@@ -8,12 +8,11 @@ use Rattle.fields.specs.declared.trouble.Trouble.{Trouble}
 use Rattle.fields.specs.Numbers.{byteAt, u16At}
 use Rattle.fields.specs.Trouble.{first, troubleUnless, wrongMark, wrongVersion, repeated, wrongSeconds, leftOver, Row, count, upTo, recordTrouble}
 use Rattle.readings.specs.Ranges.{certificateCount, runCount, totalSeconds}
-use Rattle.records.specs.declared.Certificate.{Certificate}
 use Rattle.records.specs.declared.Counts.{Counts}
-use Rattle.records.specs.Records.{sameIdentity}
-use Rattle.heads.specs.Values.{headerAt, certificatePlace, certificateOf, fileHeaderSize, runHeaderSize}
+use Rattle.heads.specs.Values.{headerAt, fileHeaderSize, runHeaderSize}
+use Rattle.entries.specs.Entries.{entryTrouble}
 use Rattle.parts.specs.Values.{pointPlace, segmentPlace, pointTotal, segmentTotal}
-use Rattle.heads.specs.Rows.{certificateTrouble, headerTrouble}
+use Rattle.heads.specs.Rows.{headerTrouble}
 use Rattle.parts.specs.Rows.{pointsTrouble, segmentsTrouble, weighingsTrouble}
 use Rattle.job.specs.Places.{certificateCountOf, runCountOf, runStart}
 
@@ -36,23 +35,6 @@ abbrev pub fileTrouble : List ℕ → Trouble
 fileTrouble s = recordTrouble s 0 fileHeaderSize (fileRows s)
 
 -- Certificates
-
--- the same kind, maker, serial and day
-abbrev pub sameCertificate : Certificate → Certificate → Bool
-sameCertificate a b = eqb (a .kind) (b .kind) && (sameIdentity (a .identity) (b .identity) && eqb (a .day) (b .day))
-
--- f 0 or .. or f (n - 1)
-unfoldable pub anyTo : (ℕ → Bool) → ℕ → Bool
-anyTo f zero = false
-anyTo f (suc n) = anyTo f n || f n
-
--- an earlier certificate is the same
-abbrev pub repeats : List ℕ → ℕ → Bool
-repeats s k = anyTo (λ j. sameCertificate (certificateOf s j) (certificateOf s k)) k
-
--- a certificate's fields, and then that it does not repeat an earlier one
-abbrev pub entryTrouble : List ℕ → ℕ → Trouble
-entryTrouble s k = first (certificateTrouble s (certificatePlace k)) (troubleUnless (not (repeats s k)) repeated (certificatePlace k))
 
 abbrev pub certificatesTrouble : List ℕ → Trouble
 certificatesTrouble s = upTo (entryTrouble s) (certificateCountOf s)

@@ -1,7 +1,6 @@
 // The walk over a whole job file, from the front to the first trouble met or to the end.
 // Holds no heap and copies no record: a job is its counts and the place of each run. Relies on the records of parts.
 
-mod certificates;
 mod file;
 mod runs;
 
@@ -41,7 +40,7 @@ pub fn read(s: &[u8]) -> Job
     };
     let certificates = numbers::u16_at(s, file::CERTIFICATES_AT) as usize;
     let runs = numbers::u16_at(s, file::RUNS_AT) as usize;
-    let t = certificates::troubles(s, certificates);
+    let t = entries::troubles(s, certificates);
     let Trouble::Clear = t else {
         return refused_job(t);
     };

@@ -14,7 +14,8 @@ use Rattle.fields.proofs.RecordTrouble.{complete-at}
 use Rattle.heads.specs.Values.{certificatePlace, fileHeaderSize}
 use Rattle.job.specs.declared.runs.Walk.{Walk}
 use Rattle.job.specs.Places.{runStart}
-use Rattle.job.specs.Troubles.{entryTrouble, runsTrouble, endTrouble, jobTrouble}
+use Rattle.entries.specs.Entries.{entryTrouble}
+use Rattle.job.specs.Troubles.{runsTrouble, endTrouble, jobTrouble}
 use Rattle.job.proofs.WholeFile.{certificate-count, run-count, certificates-fit, refuses, accepts, walk-told, walk-starts}
 use Rattle.job.proofs.read.Statement.{statement}
 use Rattle.job.proofs.read.Tie as tie

@@ -5,9 +5,9 @@ use borrow.Author.Needs.{needs}
 use Rattle.fields.specs.declared.trouble.Trouble.the-variants.{Clear}
 use Rattle.fields.specs.Trouble.{upTo}
 use Rattle.fields.proofs.FirstTrouble.{none-clear, goes-on, stops, ends}
-use Rattle.job.specs.Troubles.{entryTrouble}
-use Rattle.job.proofs.certificates.troubles.Statement.{statement}
-use Rattle.job.proofs.certificates.troubles.Tie as tie
+use Rattle.entries.specs.Entries.{entryTrouble}
+use Rattle.entries.proofs.troubles.Statement.{statement}
+use Rattle.entries.proofs.troubles.Tie as tie
 
 abbrev Inv-loop : tie.InvT-loop
 Inv-loop s n k₀ k = (k ≤ n) × (upTo (entryTrouble s) k ≡ Clear)

@@ -10,9 +10,9 @@ use Rattle.fields.proofs.FirstTrouble.{first-met, step}
 use Rattle.records.specs.declared.Certificate.{Certificate}
 use Rattle.heads.specs.Values.{certificatePlace, certificateOf, certificateSize}
 use Rattle.fields.proofs.RecordTrouble.{complete-at}
-use Rattle.job.specs.Troubles.{sameCertificate, anyTo}
-use Rattle.job.proofs.certificates.entry_trouble.Statement.{statement}
-use Rattle.job.proofs.certificates.entry_trouble.Tie as tie
+use Rattle.entries.specs.Entries.{sameCertificate, anyTo}
+use Rattle.entries.proofs.entry_trouble.Statement.{statement}
+use Rattle.entries.proofs.entry_trouble.Tie as tie
 
 mul-at : tie.Need-mul-at
 mul-at c = search needs

@@ -3,8 +3,8 @@ use mathlib.Core.Path.{refl}
 use borrow.Author.Tests.{eq-eqb, ne-eqb, not-true, not-false}
 use borrow.Author.Needs.{needs}
 use Rattle.readings.proofs.EarlyAnswers.{fails, passes}
-use Rattle.job.proofs.certificates.same.Statement.{statement}
-use Rattle.job.proofs.certificates.same.Tie as tie
+use Rattle.entries.proofs.same.Statement.{statement}
+use Rattle.entries.proofs.same.Tie as tie
 
 returns : tie.Need-returns
 returns c = fails refl (ne-eqb _ _ (c .if1 .taken)) _

@@ -1,4 +1,5 @@
-// The certificates of a job: each in itself, and none that repeats an earlier one.
+// The certificates of a job file together: each in itself, and none that repeats an earlier one.
+// Relies on what a certificate holds and on the trouble in it.
 
 use fields::trouble::Trouble;
 use heads::certificate;
@@ -9,7 +10,7 @@ ghost use lib.ListN.{length};
 ghost use Rattle.readings.specs.Ranges.{greatestCertificateCount};
 ghost use Rattle.fields.specs.Trouble.{upTo};
 ghost use Rattle.heads.specs.Values.{certificatePlace, certificateOf};
-ghost use Rattle.job.specs.Troubles.{sameCertificate, anyTo, entryTrouble};
+ghost use Rattle.entries.specs.Entries.{sameCertificate, anyTo, entryTrouble};
 
 // Kind, maker, serial and day all count.
 fn same(a: Certificate, b: Certificate) -> bool

@@ -3,12 +3,12 @@ use Prim.Native.Nat.{_-_, _≤_}
 use mathlib.Core.Path.{_≡_, _∙_, ap}
 use mathlib.Core.Bool.{false}
 use borrow.Author.Needs.{needs}
-use Rattle.job.specs.Troubles.{sameCertificate, anyTo}
+use Rattle.entries.specs.Entries.{sameCertificate, anyTo}
 use Rattle.records.specs.declared.Certificate.{Certificate}
 use Rattle.heads.specs.Values.{certificateOf}
-use Rattle.job.proofs.LookBack.{any-none, any-goes-on, any-stops, any-ends}
-use Rattle.job.proofs.certificates.repeats.Statement.{statement}
-use Rattle.job.proofs.certificates.repeats.Tie as tie
+use Rattle.entries.proofs.LookBack.{any-none, any-goes-on, any-stops, any-ends}
+use Rattle.entries.proofs.repeats.Statement.{statement}
+use Rattle.entries.proofs.repeats.Tie as tie
 
 abbrev Inv-loop : tie.InvT-loop
 Inv-loop s n c j₀ j = (j ≤ n) × (anyTo (λ i. sameCertificate (certificateOf s i) c) j ≡ false)

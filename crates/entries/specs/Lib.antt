@@ -1,0 +1,2 @@
+-- The certificates of a job file together.
+pub mod Entries
