@@ -105,7 +105,7 @@ pub record Worked (r : Run) (ch : Chosen) (l : Lines) : Type 0 where
 
 -- What the list is promised to be, in the words of docs/RULES.md
 
--- a run breaks a rule at a place: one of the rules, at one of its places
+-- a run breaks a rule at a place: from rule 1 to the last, at one of its places
 pub record Breaks (r : Run) (ch : Chosen) (l : Lines) (rule place : ℕ) : Type 0 where
   pub first : 1 ≤ rule
   pub last : rule ≤ lastRule

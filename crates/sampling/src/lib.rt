@@ -124,8 +124,7 @@ pub fn catch(
 
 // Line 20, 0.00001 gr/dscf.
 pub fn concentration(caught: i64, dry: Value) -> Value
-    requires { ⌜ CatchOk caught ⌝ }
-    requires { ⌜ Between leastDryVolume greatestDryVolume dry ⌝ }
+    requires { ⌜ CatchOk caught × Between leastDryVolume greatestDryVolume dry ⌝ }
     ensures { λ r. ⌜ IsValue 0 4937600000000 (concentration caught dry) r ⌝ }
 {
     let Value::Known(volume) = dry else {

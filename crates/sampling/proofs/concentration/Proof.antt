@@ -22,7 +22,7 @@ most : (c : tie.Else1) → weighed c .size ≤ 32000000
 most c = c .before .before .before .before .pre .0 .most _ (weighed c .is)
 
 volume-least : (c : tie.Else1) → leastDryVolume ≤ c .before .before .dry .given .0 .0
-volume-least c = c .before .before .before .before .pre .1 .known _ (c .before .before .dry .given .1) .0
+volume-least c = omega (arith, c .before .before .before .before .pre .1 .known _ (c .before .before .dry .given .1))
 
 enum-known-dry : tie.Need-enum-known-dry
 enum-known-dry c = search needs
