@@ -1,61 +1,75 @@
 -- The laws of the nearest root: the definition satisfies its two inequalities, only one number does, and both roots of docs/RULES.md are it.
 use Prim.Native.Nat.{ℕ, zero, suc, _+_, _-_, _*_, _/_, _^_, _≤_, _<_}
-use mathlib.Core.Path.{_≡_, _∙_}
-use native.Mathlib.Nat.{mul-add, add-assoc, mul-assoc, two-mul, mul-le-mul, pow-suc, pow-succ', le-trans, le-of-lt, lt-of-lt-of-le, lt-of-not-le, not-le-of-lt, le-div-iff-mul-le, le-antisymm, pos-of-ne-zero}
+use mathlib.Core.Path.{_≡_}
+use native.Mathlib.Nat.{mul-add, add-assoc, mul-assoc, two-mul, mul-le-mul, pow-suc, le-trans, le-of-lt, lt-of-lt-of-le, lt-of-not-le, not-le-of-lt, le-div-iff-mul-le, le-antisymm}
 use native.Mathlib.Decide.{decLe}
 use native.Mathlib.Omega.{arith}
-use borrow.Author.Tests.{le-leb, lt-leb, eq-eqb, ne-eqb}
-use mathlib.Core.Bool.{cond}
-use lib.Count.{leading-top}
-use lib.Dec.{leb, eqb}
-use lib.Pow.{pow-add, pow-mono}
-use Rattle.arith.specs.Root.{grown, floorRoot, nearestRoot, IsRoot, bitLength, firstBound, Largest, NearestRootOf}
+use borrow.Author.Tests.{le-leb, lt-leb}
+use lib.Dec.{leb}
+use Rattle.arith.specs.Root.{grown, floorRoot, wholeRoot, nearestRoot, IsRoot, Largest, NearestRootOf}
 
 -- the square of a double
-square-double : (a : ℕ) → 2 * a * (2 * a) ≡ 4 * (a * a)
+pub square-double : (a : ℕ) → 2 * a * (2 * a) ≡ 4 * (a * a)
 square-double a =
     let e : 2 * a * (2 * a) ≡ 2 * (a * (2 * a)) = mul-assoc 2 a (2 * a) in
     let f : a * (2 * a) ≡ a * a + a * a = rw (two-mul a, mul-add a a a) in
     omega arith
 
-square-mono : {a b : ℕ} → a ≤ b → a * a ≤ b * b
+pub square-mono : {a b : ℕ} → a ≤ b → a * a ≤ b * b
 square-mono h = mul-le-mul h h
 
--- r is the whole part of the square root of y
-record IsFloor (y r : ℕ) : Type 0 where
-  low : r * r ≤ y
-  high : y < (r + 1) * (r + 1)
+next-le : (a b : ℕ) → a < b → a + 1 ≤ b
+next-le a b h = omega arith
 
-grown-is : (y r : ℕ) → r * r ≤ y → y < (r + 2) * (r + 2) → IsFloor y (grown (leb ((r + 1) * (r + 1)) y) r)
+-- r is the whole part of the square root of y
+pub record IsWhole (y r : ℕ) : Type 0 where
+  pub low : r * r ≤ y
+  pub high : y < (r + 1) * (r + 1)
+
+grown-is : (y r : ℕ) → r * r ≤ y → y < (r + 2) * (r + 2) → IsWhole y (grown (leb ((r + 1) * (r + 1)) y) r)
 unfolding grown
 grown-is y r l h = go (decLe ((r + 1) * (r + 1)) y)
   where
-    go : Dec ((r + 1) * (r + 1) ≤ y) → IsFloor y (grown (leb ((r + 1) * (r + 1)) y) r)
+    go : Dec ((r + 1) * (r + 1) ≤ y) → IsWhole y (grown (leb ((r + 1) * (r + 1)) y) r)
     go (yes t) = rw (le-leb _ _ t) (record { low = t; high = rw (add-assoc r 1 1) h })
     go (no f) = rw (lt-leb _ _ (lt-of-not-le f)) (record { low = l; high = lt-of-not-le f })
 
 -- one more base-4 digit: the root of the digits before it, doubled, or one more
-digit-low : (y s : ℕ) → s * s ≤ y / 4 → 2 * s * (2 * s) ≤ y
+pub digit-low : (y s : ℕ) → s * s ≤ y / 4 → 2 * s * (2 * s) ≤ y
 digit-low y s h =
     let d : 2 * s * (2 * s) ≡ 4 * (s * s) = square-double s in
     omega arith
 
-digit-high : (y s : ℕ) → y / 4 < (s + 1) * (s + 1) → y < (2 * s + 2) * (2 * s + 2)
+pub digit-high : (y s : ℕ) → y / 4 < (s + 1) * (s + 1) → y < (2 * s + 2) * (2 * s + 2)
 digit-high y s h =
     let d : 2 * (s + 1) * (2 * (s + 1)) ≡ 4 * ((s + 1) * (s + 1)) = square-double (s + 1) in
     let e : 2 * s + 2 ≡ 2 * (s + 1) = omega arith in
     rw e (rw d (omega arith))
 
-floor-is : (k y : ℕ) → y < 4 ^ k → IsFloor y (floorRoot k y)
+floor-is : (k y : ℕ) → y < 4 ^ k → IsWhole y (floorRoot k y)
 unfolding floorRoot
 floor-is zero y h = record { low = omega arith; high = omega (arith, h) }
 floor-is (suc k) y h =
     let p : 4 ^ suc k ≡ 4 ^ k * 4 = pow-suc 4 k in
-    let i : IsFloor (y / 4) (floorRoot k (y / 4)) = floor-is k (y / 4) (omega arith) in
+    let i : IsWhole (y / 4) (floorRoot k (y / 4)) = floor-is k (y / 4) (omega arith) in
     grown-is y (2 * floorRoot k (y / 4)) (digit-low y _ (i .low)) (digit-high y _ (i .high))
 
+pub whole-is : (y : ℕ) → y < 2 ^ 64 → IsWhole y (wholeRoot y)
+whole-is y h = floor-is 32 y h
+
+-- only one number is the whole part
+whole-le : {y r s : ℕ} → IsWhole y r → IsWhole y s → r ≤ s
+whole-le {y} {r} {s} i j = go (decLe r s)
+  where
+    go : Dec (r ≤ s) → r ≤ s
+    go (yes t) = t
+    go (no f) = absurd (not-le-of-lt (j .high) (le-trans (square-mono (next-le s r (lt-of-not-le f))) (i .low)))
+
+pub whole-unique : {y r s : ℕ} → IsWhole y r → IsWhole y s → r ≡ s
+whole-unique i j = le-antisymm (whole-le i j) (whole-le j i)
+
 -- from the whole part s of the square root of y to the number nearest its half
-halved-is : (y s : ℕ) → IsFloor y s → IsRoot y ((s + 1) / 2)
+halved-is : (y s : ℕ) → IsWhole y s → IsRoot y ((s + 1) / 2)
 halved-is y s f =
     let q : ℕ = (s + 1) / 2 in
     let a : 2 * q - 1 ≤ s = omega arith in
@@ -65,7 +79,7 @@ halved-is y s f =
 -- The definition is the root
 pub nearest-is : (y : ℕ) → y < 2 ^ 64 → IsRoot y (nearestRoot y)
 unfolding nearestRoot
-nearest-is y h = halved-is y (floorRoot 32 y) (floor-is 32 y h)
+nearest-is y h = halved-is y (wholeRoot y) (whole-is y h)
 
 -- What lies at or above its lower inequality is no higher than what its upper inequality lies below
 pub root-le : {y : ℕ} (q m : ℕ) → (2 * q - 1) * (2 * q - 1) ≤ y → y < (2 * m + 1) * (2 * m + 1) → q ≤ m
@@ -81,44 +95,6 @@ root-le {y} q m low high = go (decLe q m)
 -- Only one number is the root
 pub root-unique : {y p q : ℕ} → IsRoot y p → IsRoot y q → p ≡ q
 root-unique {y} {p} {q} i j = le-antisymm (root-le p q (i .low) (j .high)) (root-le q p (j .low) (i .high))
-
--- b is above the root of y, and no higher than the search can square
-pub record AboveRoot (y b : ℕ) : Type 0 where
-  pub above : y < (2 * b - 1) * (2 * b - 1)
-  pub some : 1 ≤ b
-  pub small : b ≤ 2147483649
-
--- a number of j + 1 bits has its root below 2 ^ (j / 2) + 1
-above-length : (y j : ℕ) → y < 2 ^ suc j → j < 64 → AboveRoot y (2 ^ (j / 2) + 1)
-above-length y j short fits =
-    let k : ℕ = j / 2 in
-    let double : 2 ^ suc k ≡ 2 * 2 ^ k = pow-succ' 2 k in
-    let square : 2 ^ (suc k + suc k) ≡ 2 ^ suc k * 2 ^ suc k = pow-add 2 (suc k) (suc k) in
-    let length : suc j ≤ suc k + suc k = omega arith in
-    let enough : 2 ^ suc j ≤ 2 ^ (suc k + suc k) = pow-mono length in
-    let wider : 2 ^ suc k * 2 ^ suc k ≤ (2 * (2 ^ k + 1) - 1) * (2 * (2 ^ k + 1) - 1) = square-mono (omega arith) in
-    let half : k ≤ 31 = omega arith in
-    let small : 2 ^ k ≤ 2147483648 = pow-mono half in
-    record { above = omega arith; some = omega arith; small = omega arith }
-
--- the length in bits of a number that is not 0
-pub bit-length : (y : ℕ) → y < 2 ^ 64 → (y ≡ 0 → ⊥) → (1 ≤ bitLength y) × ((y < 2 ^ suc (bitLength y - 1)) × (bitLength y - 1 < 64))
-bit-length y fits some =
-    let top = leading-top 64 y (pos-of-ne-zero some) fits in
-    let length : bitLength y - 1 ≡ top .0 = omega (arith, top .1) in
-    (omega (arith, top .1), (rw length (top .3), rw length (omega (arith, top .1))))
-
--- The search begins above the root
-pub first-above : (y : ℕ) → y < 2 ^ 64 → AboveRoot y (firstBound y)
-unfolding firstBound
-first-above y fits = go (decLe y 0)
-  where
-    go : Dec (y ≤ 0) → AboveRoot y (cond (eqb y 0) 1 (2 ^ ((bitLength y - 1) / 2) + 1))
-    go (yes none) = rw (eq-eqb y 0 (omega arith)) (record { above = omega arith; some = omega arith; small = omega arith })
-    go (no h) =
-        let some : y ≡ 0 → ⊥ = λ e. h (omega arith) in
-        let (long, (short, few)) = bit-length y fits some in
-        rw (ne-eqb y 0 some) (above-length y (bitLength y - 1) short few)
 
 -- Line 14's own words: the largest q with (2q - 1)² d at most n
 pub root-largest : (n d : ℕ) → 0 < d → n / d < 2 ^ 64 → Largest (λ q. (2 * q - 1) * (2 * q - 1) * d ≤ n) (nearestRoot (n / d))

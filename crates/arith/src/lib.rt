@@ -4,7 +4,7 @@
 ghost use mathlib.Core.Path.{_≡_};
 ghost use Prim.Native.Nat.{_-_, _<_, min, max};
 ghost use Rattle.arith.specs.Rounding.{roundDiv};
-ghost use Rattle.arith.specs.Root.{nearestRoot, firstBound};
+ghost use Rattle.arith.specs.Root.{nearestRoot, wholeRoot, firstBound};
 
 // What is left of a after b is taken, 0 where b is more.
 pub fn less(a: u64, b: u64) -> u64
@@ -38,31 +38,30 @@ pub fn round_div(n: u64, d: u64) -> u64
 }
 
 // The whole number nearest half the square root of y: of a whole number x, the root is nearest_root(4 x).
-// Halving the range between two bounds: the lower one is never too high, the upper one always is.
 pub fn nearest_root(y: u64) -> u64
     ensures { λ r. ⌜ r ≡ nearestRoot y ⌝ }
 {
-    let mut low: u64 = 0;
-    let mut high = first_bound(y);
-    while low + 1 < high {
-        let mid = (low + high) / 2;
-        let odd = 2 * mid - 1;
-        if odd * odd <= y {
-            low = mid;
-        } else {
-            high = mid;
-        }
-    }
-    low
+    let whole = whole_root(y / 4);
+    let odd = 2 * whole + 1;
+    if odd * odd <= y { whole + 1 } else { whole }
 }
 
-// A bound above the root, from the length of y in bits.
-fn first_bound(y: u64) -> u64
-    ensures { λ r. ⌜ r ≡ firstBound y ⌝ }
+// The whole part of the square root of x. The mean of a bound and of x divided by it is never below that, and it is a
+// closer bound as long as there is one.
+fn whole_root(x: u64) -> u64
+    ensures { λ r. ⌜ r ≡ wholeRoot x ⌝ }
 {
-    if y == 0 {
-        return 1;
+    let mut bound = first_bound(x);
+    while x < bound * bound {
+        bound = (bound + x / bound) / 2;
     }
-    let length = 64 - u64::leading_zeros(y);
-    (1 << ((length - 1) / 2)) + 1
+    bound
+}
+
+// The first bound, from the length of x in bits: the mean of a power of two of half that length and of x divided by it.
+fn first_bound(x: u64) -> u64
+    ensures { λ r. ⌜ r ≡ firstBound x ⌝ }
+{
+    let half = (64 - u64::leading_zeros(x)) / 2;
+    ((1 << half) + (x >> half)) / 2
 }

@@ -30,7 +30,7 @@ unfoldable pub roots : Example
 roots =
     record {
       worked = map pointRoot (0 ∷ 1 ∷ 500 ∷ 10000 ∷ []);
-      expected = 0 ∷ 316 ∷ 7071 ∷ 31623 ∷ [];
+      expected = 0 ∷ 3162 ∷ 70711 ∷ 316228 ∷ [];
     }
 
 -- V 20,000, T 3,600 and a leak of 20 over the whole time
@@ -48,5 +48,5 @@ workedLines =
       worked = map valueOf (sheet (lines workedRun (Known 10000) (Known 840) (Measured 250 250 250)) .entries);
       expected =
           3600 ∷ 40000 ∷ 39400 ∷ 301471 ∷ 5400 ∷ 38801 ∷ 4707 ∷ 10819 ∷ 30160 ∷ 28844
-          ∷ 299500 ∷ 6600 ∷ 7071 ∷ 8741 ∷ 44385 ∷ 34089 ∷ 90604 ∷ 9980 ∷ 1056 ∷ 4199 ∷ [];
+          ∷ 299500 ∷ 6600 ∷ 70711 ∷ 8741 ∷ 44386 ∷ 34089 ∷ 90604 ∷ 9980 ∷ 1056 ∷ 4199 ∷ [];
     }

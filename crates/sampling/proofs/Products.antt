@@ -6,6 +6,7 @@ use Rattle.readings.specs.Ranges.{greatestRinseVolume, leastSeconds, greatestTo
 use Rattle.readings.proofs.Ranges.{within-greatest}
 use Rattle.records.specs.declared.Acetone.{Acetone}
 use Rattle.records.specs.InRange.{AcetoneOk}
+use Rattle.stack.specs.Promise.{greatestVelocity}
 use Rattle.sampling.specs.Sampling.{deduction}
 
 -- Line 16
@@ -20,10 +21,10 @@ pub drawn-numerator : {t s : ℕ} → t ≤ 24600 → s ≤ 1506016 → 945 * t 
 drawn-numerator ht hs = mul-le-mul (mul-le-mul-left 945 ht) hs
 
 -- Line 18
-pub divisor-most : {s a : ℕ} → s ≤ 749234 → a ≤ 545417 → s * a ≤ 408644960578
+pub divisor-most : {s a : ℕ} → s ≤ greatestVelocity → a ≤ 545417 → s * a ≤ 408642233493
 divisor-most hs ha = mul-le-mul hs ha
 
-pub divisor-time-most : {s a t : ℕ} → s ≤ 749234 → a ≤ 545417 → t ≤ greatestTotalSeconds → s * a * t ≤ 14711218580808000
+pub divisor-time-most : {s a t : ℕ} → s ≤ greatestVelocity → a ≤ 545417 → t ≤ greatestTotalSeconds → s * a * t ≤ 14711120405748000
 divisor-time-most hs ha ht = mul-le-mul (divisor-most hs ha) ht
 
 pub divisor-least : {s a t : ℕ} → 1 ≤ s → 5454 ≤ a → leastSeconds ≤ t → 5454 ≤ s * a * t

@@ -15,6 +15,7 @@ ghost use Rattle.readings.specs.Ranges.{leastSeconds, greatestTotalSeconds};
 ghost use Rattle.records.specs.InRange.{AcetoneOk};
 ghost use Rattle.values.specs.Promise.{Is, IsValue, Between, DiametersOk};
 ghost use Rattle.metering.specs.Promise.{leastDryVolume, greatestDryVolume};
+ghost use Rattle.stack.specs.Promise.{greatestVelocity};
 ghost use Rattle.sampling.specs.Sampling.{nozzleArea, drawnGas, isokinetic, deduction, catch, concentration};
 ghost use Rattle.sampling.specs.Promise.{WeighingsOk, AreWeighingSums, CatchOk, IsCatch};
 
@@ -54,7 +55,7 @@ pub fn drawn_gas(dry: Value, vapor: u64, pressure: u64, temperature: u64) -> Val
 // Line 18, 0.01 percent.
 pub fn isokinetic(drawn: Value, velocity: Value, area: Value, time: u64) -> Value
     requires { ⌜ Between 0 19675261 drawn ⌝ }
-    requires { ⌜ Between 0 749234 velocity ⌝ }
+    requires { ⌜ Between 0 greatestVelocity velocity ⌝ }
     requires { ⌜ Between 5454 545417 area ⌝ }
     requires { ⌜ (leastSeconds ≤ time) × (time ≤ greatestTotalSeconds) ⌝ }
     ensures { λ r. ⌜ IsValue 0 2164495159515952 (isokinetic drawn velocity area time) r ⌝ }

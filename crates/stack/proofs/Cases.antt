@@ -34,6 +34,6 @@ pub velocity-no-density : {cp density : Value} {k : ℕ} (mean : ℕ) → cp ≡
 unfolding velocity
 velocity-no-density mean e d = rw (e, d)
 
-pub velocity-known : {cp density : Value} {k q : ℕ} (mean : ℕ) → cp ≡ Known k → density ≡ Known q → velocity cp mean density ≡ Known (roundDiv (8549 * k * mean * q) (10 ^ 10))
+pub velocity-known : {cp density : Value} {k q : ℕ} (mean : ℕ) → cp ≡ Known k → density ≡ Known q → velocity cp mean density ≡ Known (roundDiv (8549 * k * mean * q) (10 ^ 11))
 unfolding velocity
 velocity-known mean e d = rw (e, d)

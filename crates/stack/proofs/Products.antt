@@ -2,6 +2,7 @@
 use Prim.Native.Nat.{ℕ, _-_, _*_, _≤_}
 use native.Mathlib.Nat.{le-refl, mul-le-mul, mul-le-mul-left}
 use Rattle.readings.specs.Ranges.{greatestCoefficient}
+use Rattle.stack.specs.Promise.{greatestRoot}
 
 -- Line 10
 pub wet-most : {dry : ℕ} (w : ℕ) → dry ≤ 44000 → dry * (100000 - w) ≤ 44000 * (100000 - w)
@@ -18,8 +19,8 @@ pub density-divisor-most : {p w : ℕ} → p ≤ 342059 → w ≤ 44000 → p * 
 density-divisor-most hp hw = mul-le-mul hp hw
 
 -- Line 15
-pub velocity-product : {k mean : ℕ} → k ≤ greatestCoefficient → mean ≤ 31623 → 8549 * k * mean ≤ 270345027000
+pub velocity-product : {k mean : ℕ} → k ≤ greatestCoefficient → mean ≤ greatestRoot → 8549 * k * mean ≤ 8549 * greatestCoefficient * greatestRoot
 velocity-product hk hm = mul-le-mul (mul-le-mul-left 8549 hk) hm
 
-pub velocity-numerator : {k mean q : ℕ} → k ≤ greatestCoefficient → mean ≤ 31623 → q ≤ 27714 → 8549 * k * mean * q ≤ 7492342078278000
+pub velocity-numerator : {k mean q : ℕ} → k ≤ greatestCoefficient → mean ≤ greatestRoot → q ≤ 27714 → 8549 * k * mean * q ≤ 8549 * greatestCoefficient * greatestRoot * 27714
 velocity-numerator hk hm hq = mul-le-mul (velocity-product hk hm) hq

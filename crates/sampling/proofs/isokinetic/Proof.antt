@@ -2,6 +2,7 @@
 use borrow.Author.Needs.{needs}
 use native.Mathlib.Omega.{arith}
 use Rattle.values.proofs.Promise.{rounded, is-missing, is-known}
+use Rattle.stack.specs.Promise.{greatestVelocity}
 use Rattle.sampling.proofs.Cases.{isokinetic-no-gas, isokinetic-no-velocity, isokinetic-no-area, isokinetic-still, isokinetic-known}
 use Rattle.sampling.proofs.Products.{divisor-most, divisor-time-most, divisor-least}
 use native.Mathlib.Nat.{mul-le-mul-left}
@@ -15,7 +16,7 @@ start c = c .before .before .before .before .before .before .before .before .bef
 gas-most : (c : tie.Else1) → c .before .before .before .before .before .before .before .before .drawn .given .0 .0 ≤ 19675261
 gas-most c = start c .pre .0 .known _ (c .before .before .before .before .before .before .before .before .drawn .given .1) .1
 
-speed-most : (c : tie.Else1) → c .before .before .before .before .before .velocity .given .0 .0 ≤ 749234
+speed-most : (c : tie.Else1) → c .before .before .before .before .before .velocity .given .0 .0 ≤ greatestVelocity
 speed-most c = start c .pre .1 .0 .known _ (c .before .before .before .before .before .velocity .given .1) .1
 
 opening : (c : tie.Else1) → (5454 ≤ c .before .before .area .given .0 .0) × (c .before .before .area .given .0 .0 ≤ 545417)
