@@ -30,7 +30,7 @@ static const struct {
     {"Wet molecular weight", "lb/lb-mole", 3},
     {"Stack pressure", "in Hg", 4},
     {"Stack temperature", "R", 1},
-    {"Mean root", "(in water)^0.5", 4},
+    {"Mean root", "(in water)^0.5", 5},
     {"Density root", "(R lb-mole/in Hg lb)^0.5", 4},
     {"Velocity", "ft/s", 3},
     {"Nozzle area", "ft2", 8},

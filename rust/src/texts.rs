@@ -64,7 +64,7 @@ pub const LINES: &[LineText] = &[
     a_line(10, "Wet molecular weight", 3, "lb/lb-mole"),
     a_line(11, "Stack pressure",       4, "in Hg"),
     a_line(12, "Stack temperature",    1, "R"),
-    a_line(13, "Mean root",            4, "(in water)^0.5"),
+    a_line(13, "Mean root",            5, "(in water)^0.5"),
     a_line(14, "Density root",         4, "(R lb-mole/in Hg lb)^0.5"),
     a_line(15, "Velocity",             3, "ft/s"),
     a_line(16, "Nozzle area",          8, "ft2"),

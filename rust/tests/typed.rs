@@ -16,8 +16,8 @@ const REFUSED: &[u8] = include_bytes!("../../examples/refused.job");
 fn the_worked_run() {
     let reduced = reduce_run(WORKED, 7).unwrap();
     let lines = [
-        3600, 40000, 39400, 301471, 5400, 38801, 4707, 10819, 30160, 28844, 299500, 6600, 7071,
-        8741, 44385, 34089, 90604, 9980, 1056, 4199,
+        3600, 40000, 39400, 301471, 5400, 38801, 4707, 10819, 30160, 28844, 299500, 6600, 70711,
+        8741, 44386, 34089, 90604, 9980, 1056, 4199,
     ];
     assert_eq!((reduced.number, reduced.accepted), (7, true));
     for (index, line) in reduced.lines.iter().enumerate() {

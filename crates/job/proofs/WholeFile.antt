@@ -10,7 +10,7 @@ use Rattle.readings.specs.Ranges.{greatestRunCount, leastRunCount, greatestCert
 use Rattle.fields.specs.declared.trouble.Trouble.{Trouble}
 use Rattle.fields.specs.declared.trouble.Trouble.the-variants.{Clear, At}
 use Rattle.fields.specs.Trouble.{first, upTo}
-use Rattle.fields.proofs.FirstTrouble.{clear-left, each-clear}
+use Rattle.fields.proofs.FirstTrouble.{clear-left, each-clear, first-met}
 use Rattle.readings.proofs.Ranges.{within-greatest}
 use Rattle.arrays.specs.Arrays.{padded}
 use Rattle.fields.proofs.RecordTrouble.{complete-at, good-at}
@@ -41,6 +41,11 @@ certificates-fit s (suc n) e f =
 pub refuses : (s : List ℕ) {r : Job} {t : Trouble} {n p : ℕ} → r ≡ refusedJob t → t ≡ At n p → t ≡ jobTrouble s → r ≡ readJob s
 unfolding readJob
 refuses s e told first = e ∙ ap refusedJob told ∙ ap (λ (t : Trouble). jobOf t s) (sym told ∙ first)
+
+-- .. the header's trouble before any other ..
+pub header-refuses : (s : List ℕ) {r : Job} {t : Trouble} {n p : ℕ} → r ≡ refusedJob t → t ≡ fileTrouble s → t ≡ At n p → r ≡ readJob s
+unfolding jobTrouble
+header-refuses s e met told = refuses s e told (first-met _ met told)
 
 -- .. and a job without trouble is the one that the file holds
 pub accepts : (s : List ℕ) {r : Job} → r ≡ jobOf Clear s → Clear ≡ jobTrouble s → r ≡ readJob s

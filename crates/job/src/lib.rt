@@ -1,7 +1,7 @@
 // The walk over a whole job file, from the front to the first trouble met or to the end.
 // Holds no heap and copies no record: a job is its counts and the place of each run. Relies on the records of parts.
 
-mod file;
+pub mod file;
 mod runs;
 
 use fields::numbers;
@@ -9,6 +9,8 @@ use fields::trouble::Trouble;
 use heads::certificate;
 use readings::headers::RunCount;
 ghost use mathlib.Core.Path.{_≡_};
+ghost use Rattle.fields.specs.declared.trouble.Trouble.the-variants.{Clear};
+ghost use Rattle.job.specs.Troubles.{fileTrouble};
 ghost use Rattle.job.specs.Reading.{refusedJob, readJob};
 
 // What a file holds. A job in trouble holds nothing: no certificates, no runs, and zeros for places.
@@ -38,6 +40,14 @@ pub fn read(s: &[u8]) -> Job
     let Trouble::Clear = t else {
         return refused_job(t);
     };
+    read_records(s)
+}
+
+// The same of a file whose header is in no trouble.
+pub fn read_records(s: &[u8]) -> Job
+    requires { ⌜ fileTrouble (now s) ≡ Clear ⌝ }
+    ensures { λ r. ⌜ r ≡ readJob (now (s .entry)) ⌝ }
+{
     let certificates = numbers::u16_at(s, file::CERTIFICATES_AT) as usize;
     let runs = numbers::u16_at(s, file::RUNS_AT) as usize;
     let t = entries::troubles(s, certificates);

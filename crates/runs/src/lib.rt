@@ -49,7 +49,11 @@ fn hand_over(done: Reduced, lines: &mut [u8], findings: &mut [u8]) -> Answer
 pub fn reduce(job: &[u8], run: u16, lines: &mut [u8], findings: &mut [u8]) -> Answer
     ensures { λ r. ⌜ Answers (now (job .entry)) run (now (lines .entry)) (now (findings .entry)) (now (lines .exit)) (now (findings .exit)) r ⌝ }
 {
-    let read = job::read(job);
+    let header = job::file::trouble(job);
+    if let Trouble::At(number, place) = header {
+        return Answer::Refused(number, place as u32);
+    }
+    let read = job::read_records(job);
     let trouble = read.trouble;
     if let Trouble::At(number, place) = trouble {
         return Answer::Refused(number, place as u32);

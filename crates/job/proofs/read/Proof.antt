@@ -1,22 +1,7 @@
--- Header, certificates, runs: the first in trouble is the answer, and past them all the job is what was counted.
-use Prim.Native.Nat.{ℕ, _≤_}
-use mathlib.Core.Path.{sym, _∙_, ap, subst}
-use native.Mathlib.Omega.{arith}
+-- The header's trouble, or what its records are read as.
+use mathlib.Core.Path.{sym, _∙_}
 use borrow.Author.Needs.{needs}
-use lib.Dec.{lit≤}
-use lib.ListN.{length}
-use Rattle.readings.specs.Ranges.{greatestRunCount, greatestCertificateCount}
-use Rattle.fields.specs.declared.trouble.Trouble.the-variants.{Clear}
-use Rattle.fields.specs.Trouble.{first, upTo}
-use Rattle.fields.proofs.FirstTrouble.{first-met, first-passed}
-use Rattle.arrays.specs.Arrays.{padded}
-use Rattle.fields.proofs.RecordTrouble.{complete-at}
-use Rattle.heads.specs.Values.{certificatePlace, fileHeaderSize}
-use Rattle.job.specs.declared.runs.Walk.{Walk}
-use Rattle.job.specs.Places.{runStart}
-use Rattle.entries.specs.Entries.{entryTrouble}
-use Rattle.job.specs.Troubles.{runsTrouble, endTrouble, jobTrouble}
-use Rattle.job.proofs.WholeFile.{certificate-count, run-count, certificates-fit, refuses, accepts, walk-told, walk-starts}
+use Rattle.job.proofs.WholeFile.{header-refuses}
 use Rattle.job.proofs.read.Statement.{statement}
 use Rattle.job.proofs.read.Tie as tie
 
@@ -33,119 +18,13 @@ refused-job-requires : tie.Need-refused-job-requires
 refused-job-requires c κs = search needs
 
 returns : tie.Need-returns
-unfolding jobTrouble
-returns c =
-    let told = c .before .enum-told2 .given .1 in
-    refuses _ (c .refused-job .ensures) told (first-met _ (c .before .before .before .trouble .ensures) told)
+returns c = header-refuses _ (c .refused-job .ensures) (c .before .before .before .trouble .ensures) (c .before .enum-told2 .given .1)
 
--- a header whose fields are clear is complete
-complete : (c : tie.After-enum-told) → fileHeaderSize ≤ length (c .before .before .before .before .args .s .now)
-complete c = complete-at _ 0 fileHeaderSize _ (lit≤ tt) (sym (c .before .before .trouble .ensures) ∙ c .enum-told .given .1)
-
-u16-at-requires : tie.Need-u16-at-requires
-u16-at-requires c κs = omega (arith, complete c)
-
-cast-certificates : tie.Need-cast-certificates
-cast-certificates c = search needs
-
-u16-at-requires-2 : tie.Need-u16-at-requires-2
-u16-at-requires-2 c κs = complete (c .before)
-
-cast-runs : tie.Need-cast-runs
-cast-runs c = search needs
-
-troubles-requires : tie.Need-troubles-requires
-troubles-requires c κs =
-    let header = c .before .before in
-    subst (λ (n : ℕ). n ≤ greatestCertificateCount) (sym (c .before .u16-at .ensures)) (certificate-count _ (sym (header .before .before .trouble .ensures) ∙ header .enum-told .given .1))
-
-enum-told-3 : tie.Need-enum-told-3
-enum-told-3 c = search needs
-
-enum-told-4 : tie.Need-enum-told-4
-enum-told-4 c = search needs
-
-refused-job-requires-2 : tie.Need-refused-job-requires-2
-refused-job-requires-2 c κs = search needs
+read-records-requires : tie.Need-read-records-requires
+read-records-requires c κs = sym (c .before .before .trouble .ensures) ∙ c .enum-told .given .1
 
 returns-2 : tie.Need-returns-2
-unfolding jobTrouble
-returns-2 c =
-    let told = c .before .enum-told4 .given .1 in
-    let certificates = c .before .before .before in
-    let counts = certificates .before .before in
-    let header = counts .before in
-    let s = header .before .before .before .before .args .s .now in
-    let entries = certificates .troubles .ensures ∙ ap (upTo (entryTrouble s)) (counts .u16-at .ensures) in
-    refuses s (c .refused-job2 .ensures) told
-    (first-passed (header .before .before .trouble .ensures) (header .enum-told .given .1) (first-met _ entries told))
-
-mul-first : tie.Need-mul-first
-mul-first c = search needs
-
-add-first : tie.Need-add-first
-add-first c = search needs
-
-read-requires : tie.Need-read-requires
-unfolding runStart
-read-requires c κs =
-    let certificates = c .before .before in
-    let runs = certificates .before in
-    let count = runs .before in
-    let header = count .before in
-    let s = header .before .before .before .before .args .s .now in
-    let own = sym (header .before .before .trouble .ensures) ∙ header .enum-told .given .1 in
-    let entries = sym (certificates .troubles .ensures) ∙ c .enum-told3 .given .1 in (
-      subst (λ (n : ℕ). n ≤ greatestRunCount) (sym (runs .u16-at2 .ensures)) (run-count _ own),
-      ap certificatePlace (count .u16-at .ensures),
-      certificates-fit s _ own entries,
-    )
-
-enum-told-5 : tie.Need-enum-told-5
-enum-told-5 c = search needs
-
-enum-told-6 : tie.Need-enum-told-6
-enum-told-6 c = search needs
-
-refused-job-requires-3 : tie.Need-refused-job-requires-3
-refused-job-requires-3 c κs = search needs
-
-returns-3 : tie.Need-returns-3
-unfolding jobTrouble
-returns-3 c =
-    let told = c .before .enum-told6 .given .1 in
-    let walk = c .before .before .before in
-    let held = walk .before in
-    let certificates = held .before .before in
-    let runs = certificates .before in
-    let count = runs .before in
-    let header = count .before in
-    let s = header .before .before .before .before .args .s .now in
-    let entries = certificates .troubles .ensures ∙ ap (upTo (entryTrouble s)) (count .u16-at .ensures) in
-    let rest = ap (λ (w : Walk). w .trouble) (walk .read .ensures) ∙ walk-told s _ ∙ ap (λ (n : ℕ). first (runsTrouble s n) (endTrouble s (runStart s n))) (runs .u16-at2 .ensures) in
-    refuses s (c .refused-job3 .ensures) told
-    (first-passed (header .before .before .trouble .ensures) (header .enum-told .given .1)
-    (first-passed entries (held .enum-told3 .given .1) rest))
-
-returns-4 : tie.Need-returns-4
-unfolding jobTrouble
-returns-4 c =
-    let done = c .before in
-    let walk = done .before .before in
-    let held = walk .before in
-    let certificates = held .before .before in
-    let runs = certificates .before in
-    let count = runs .before in
-    let header = count .before in
-    let s = header .before .before .before .before .args .s .now in
-    let entries = certificates .troubles .ensures ∙ ap (upTo (entryTrouble s)) (count .u16-at .ensures) in
-    let rest = ap (λ (w : Walk). w .trouble) (walk .read .ensures) ∙ walk-told s _ ∙ ap (λ (n : ℕ). first (runsTrouble s n) (endTrouble s (runStart s n))) (runs .u16-at2 .ensures) in
-    let starts = ap (λ (w : Walk). w .starts) (walk .read .ensures) ∙ walk-starts s _ (ap (λ (w : Walk). w .trouble) (sym (walk .read .ensures)) ∙ done .enum-told5 .given .1) ∙ ap (padded greatestRunCount 0 (runStart s)) (runs .u16-at2 .ensures) in
-    accepts s
-    (λ i. record { trouble = Clear; certificates = count .u16-at .ensures i; runs = runs .u16-at2 .ensures i; starts = starts i })
-    (sym (done .enum-told5 .given .1)
-    ∙ first-passed (header .before .before .trouble .ensures) (header .enum-told .given .1)
-    (first-passed entries (held .enum-told3 .given .1) rest))
+returns-2 c = search needs
 
 pub read-spec : {M : Type 1} → statement M
 read-spec =
@@ -156,20 +35,5 @@ read-spec =
     enum-told-2
     refused-job-requires
     returns
-    u16-at-requires
-    cast-certificates
-    u16-at-requires-2
-    cast-runs
-    troubles-requires
-    enum-told-3
-    enum-told-4
-    refused-job-requires-2
-    returns-2
-    mul-first
-    add-first
-    read-requires
-    enum-told-5
-    enum-told-6
-    refused-job-requires-3
-    returns-3
-    returns-4)
+    read-records-requires
+    returns-2)

@@ -1,7 +1,9 @@
 -- Each way through the call is the outcome of its case.
 use borrow.Author.Needs.{needs}
 use native.Mathlib.Omega.{arith}
-use mathlib.Core.Path.{_∙_, sym}
+use mathlib.Core.Path.{_≡_, refl, _∙_, sym}
+use Rattle.job.specs.Reading.{refusedJob, readJob}
+use Rattle.job.proofs.WholeFile.{header-refuses}
 use Rattle.reduction.specs.Reducing.{ClearRun}
 use Rattle.reduction.proofs.ClearJobs.{read-clear, count-of-runs, found-few, place-fits}
 use Rattle.reduction.proofs.Naming.{found-inside}
@@ -9,36 +11,55 @@ use Rattle.runs.proofs.Outcomes.{came-refused, refused-by-reader, no-ru
 use Rattle.runs.proofs.reduce.Statement.{statement}
 use Rattle.runs.proofs.reduce.Tie as tie
 
-read-requires : tie.Need-read-requires
-read-requires c κs = search needs
+trouble-requires : tie.Need-trouble-requires
+trouble-requires c κs = search needs
 
-enum-known-trouble : tie.Need-enum-known-trouble
-enum-known-trouble c = search needs
+enum-known-header : tie.Need-enum-known-header
+enum-known-header c = search needs
 
-cast-t11 : tie.Need-cast-t11
-cast-t11 c = omega (arith, place-fits _ (c .before .before .before .read .ensures) (c .before .trouble .given .1))
+-- where the header is in trouble, so is the job that is read
+by-header : (c : tie.After-known-told) → refusedJob (c .before .before .before .trouble .result) ≡ readJob (c .before .before .before .before .before .before .before .args .job .now)
+by-header c = header-refuses _ refl (c .before .before .before .trouble .ensures) (c .before .header .given .1)
+
+cast-t14 : tie.Need-cast-t14
+cast-t14 c = omega (arith, place-fits _ (by-header c) (c .before .header .given .1))
 
 returns : tie.Need-returns
-returns c = came-refused _ _ _ _ (refused-by-reader _ _ _ _ (c .before .before .before .read .ensures) (c .before .trouble .given .1))
+returns c = came-refused _ _ _ _ (refused-by-reader _ _ _ _ (by-header c) (c .before .header .given .1))
 
 enum-told : tie.Need-enum-told
 enum-told c = search needs
 
-find-run-requires : tie.Need-find-run-requires
-find-run-requires c κs = read-clear _ (c .before .before .read .ensures) (c .enum-told .given .1)
+read-records-requires : tie.Need-read-records-requires
+read-records-requires c κs = sym (c .before .before .trouble .ensures) ∙ c .enum-told .given .1
 
-enum-known-which : tie.Need-enum-known-which
-enum-known-which c = search needs
+enum-known-trouble : tie.Need-enum-known-trouble
+enum-known-trouble c = search needs
+
+cast-t15 : tie.Need-cast-t15
+cast-t15 c = omega (arith, place-fits _ (c .before .before .before .read-records .ensures) (c .before .trouble2 .given .1))
+
+returns-2 : tie.Need-returns-2
+returns-2 c = came-refused _ _ _ _ (refused-by-reader _ _ _ _ (c .before .before .before .read-records .ensures) (c .before .trouble2 .given .1))
 
 enum-told-2 : tie.Need-enum-told-2
 enum-told-2 c = search needs
 
-returns-2 : tie.Need-returns-2
-returns-2 c = came-refused 10 0 _ _ (no-run _ _ _ _ _ (read-clear _ (c .before .before .before .before .before .read .ensures) (c .before .before .before .enum-told .given .1)) (c .before .before .find-run .ensures) (c .enum-told2 .given .1))
+find-run-requires : tie.Need-find-run-requires
+find-run-requires c κs = read-clear _ (c .before .before .read-records .ensures) (c .enum-told2 .given .1)
 
-found : (c : tie.After-known-told2) → ClearRun (c .before .before .before .before .before .before .before .before .before .before .args .job .now) (c .before .before .before .before .before .before .read .result) (c .before .which .given .0 .0)
+enum-known-which : tie.Need-enum-known-which
+enum-known-which c = search needs
+
+enum-told-3 : tie.Need-enum-told-3
+enum-told-3 c = search needs
+
+returns-3 : tie.Need-returns-3
+returns-3 c = came-refused 10 0 _ _ (no-run _ _ _ _ _ (read-clear _ (c .before .before .before .before .before .read-records .ensures) (c .before .before .before .enum-told2 .given .1)) (c .before .before .find-run .ensures) (c .enum-told3 .given .1))
+
+found : (c : tie.After-known-told3) → ClearRun (c .before .before .before .before .before .before .before .before .before .before .before .before .before .args .job .now) (c .before .before .before .before .before .before .read-records .result) (c .before .which .given .0 .0)
 found c =
-    let job = read-clear _ (c .before .before .before .before .before .before .read .ensures) (c .before .before .before .before .enum-told .given .1) in
+    let job = read-clear _ (c .before .before .before .before .before .before .read-records .ensures) (c .before .before .before .before .enum-told2 .given .1) in
     let named = sym (c .before .before .before .find-run .ensures) ∙ c .before .which .given .1 in
     record { job = job; inside = rw (count-of-runs _ _ job) at (found-inside _ _ _ named) }
 
@@ -56,8 +77,8 @@ same-length c = search needs
 same-length-2 : tie.Need-same-length-2
 same-length-2 c = search needs
 
-returns-3 : tie.Need-returns-3
-returns-3 c =
+returns-4 : tie.Need-returns-4
+returns-4 c =
     let at = c .before .before .before .before .before .before .before .before in
     let whole = one-run _ _ _ _ _ (found at .job) (at .before .before .before .find-run .ensures) (at .before .which .given .1) (c .before .before .before .before .before .before .before .reduce .ensures) in
     came-same whole (c .before .before .before .before .hand-over .ensures)
@@ -66,17 +87,22 @@ pub reduce-spec : {M : Type 1} → statement M
 reduce-spec =
     tie.close
     (tie.spec
-    read-requires
-    enum-known-trouble
-    cast-t11
+    trouble-requires
+    enum-known-header
+    cast-t14
     returns
     enum-told
+    read-records-requires
+    enum-known-trouble
+    cast-t15
+    returns-2
+    enum-told-2
     find-run-requires
     enum-known-which
-    enum-told-2
-    returns-2
+    enum-told-3
+    returns-3
     reduce-requires
     hand-over-requires
     same-length
     same-length-2
-    returns-3)
+    returns-4)
