@@ -5,6 +5,8 @@ pub struct Extent {
     pub damaged_jobs: u64,
     pub random_jobs: u64,
     pub longest_jobs: u64,
+    /// One in so many of the jobs that hold every head there is.
+    pub one_job_of_heads_in: usize,
     pub random_rectangles: u64,
     /// Each byte of the worked job with every other value, or with telling ones.
     pub every_value: bool,
@@ -28,6 +30,7 @@ pub const FULL: Extent = Extent {
     damaged_jobs: 40_000,
     random_jobs: 10_000,
     longest_jobs: 12,
+    one_job_of_heads_in: 1,
     random_rectangles: 20_000,
     every_value: true,
     every_pairing: true,
@@ -46,6 +49,7 @@ pub const LIGHT: Extent = Extent {
     damaged_jobs: 9_000,
     random_jobs: 4_000,
     longest_jobs: 4,
+    one_job_of_heads_in: 9,
     random_rectangles: 4_000,
     every_value: false,
     every_pairing: false,

@@ -94,6 +94,8 @@ fn sections(proved: &Proved, sheet: Option<&CommandLine>) -> Result<Vec<String>,
     println!("{random}");
     all.add(&random);
 
+    let heads = cases::heads::cases(extent.one_job_of_heads_in);
+    all.add(&Section::new("velocity heads").library(proved, heads)?);
     let longest = cases::longest::cases(extent.longest_jobs);
     all.add(&Section::new("longest jobs").library(proved, longest)?);
     all.add(&Section::new("large files").library(proved, cases::large::cases().into_iter())?);

@@ -26,6 +26,10 @@ const ABSENCES: [(usize, &[u8]); 9] = [
     (20, &[1, 12, 20]),
 ];
 
+/// Line 13 where every head is 0.01 in water: a stack that is as slow as that,
+/// or slower, is one that the root's fifth place was asked for.
+const SLOW_ROOT: i64 = 10_000;
+
 /// Line 18 on either side of its limits.
 const ISOKINETIC_EDGES: [i64; 4] = [8_999, 9_000, 11_000, 11_001];
 
@@ -42,6 +46,8 @@ pub struct Tally {
     absences: [[u64; LAST_RULE + 1]; LINE_COUNT + 1],
     /// Runs whose line 6 is the least that it can be, 1.
     least_volumes: u64,
+    /// Runs in a slow stack.
+    slow_stacks: u64,
     isokinetic_edges: [u64; ISOKINETIC_EDGES.len()],
     refusals: [u64; REFUSALS + 1],
 }
@@ -75,6 +81,8 @@ impl Tally {
             }
         }
         self.least_volumes += u64::from(lines[5] == Some(1));
+        let slow = matches!(lines[12], Some(root) if (1..=SLOW_ROOT).contains(&root));
+        self.slow_stacks += u64::from(slow);
         for (edge, count) in ISOKINETIC_EDGES.iter().zip(&mut self.isokinetic_edges) {
             *count += u64::from(lines[17] == Some(*edge));
         }
@@ -109,6 +117,7 @@ impl Tally {
             add_each(mine, others);
         }
         self.least_volumes += other.least_volumes;
+        self.slow_stacks += other.slow_stacks;
         add_each(&mut self.isokinetic_edges, &other.isokinetic_edges);
         add_each(&mut self.refusals, &other.refusals);
     }
@@ -134,6 +143,7 @@ impl Tally {
             }
         }
         need(self.least_volumes, "line 6 at 1".into());
+        need(self.slow_stacks, "a slow stack".into());
         for (edge, &count) in ISOKINETIC_EDGES.iter().zip(&self.isokinetic_edges) {
             need(count, format!("line 18 at {edge}"));
         }
@@ -192,6 +202,11 @@ impl fmt::Display for Tally {
             writeln!(f, "    line {line}: {}", counted.join(", "))?;
         }
         writeln!(f, "  line 6 at its least, 1: {}", self.least_volumes)?;
+        writeln!(
+            f,
+            "  slow stacks, line 13 from 1 to {SLOW_ROOT}: {}",
+            self.slow_stacks
+        )?;
         write!(f, "  line 18 at its limits:")?;
         for (edge, count) in ISOKINETIC_EDGES.iter().zip(&self.isokinetic_edges) {
             write!(f, " {edge}: {count} ")?;

@@ -12,6 +12,9 @@ const MOST_SEGMENTS: usize = 16;
 const MOST_WEIGHINGS: usize = 8;
 const LONGEST_RUN: i64 = 36_000;
 
+/// A slow stack's heads are a few thousandths of an inch.
+const SLOW_HEAD: i64 = 10;
+
 pub(super) fn run(random: &mut Random, number: u16, style: Style) -> Run {
     let calm = samples::worked().runs.remove(0);
     let mut run = Run {
@@ -119,13 +122,15 @@ fn point_count(random: &mut Random, shape: Shape, style: Style) -> usize {
 
 fn points(random: &mut Random, shape: Shape, style: Style) -> Vec<Point> {
     let count = point_count(random, shape, style);
-    let still = random.percent(3);
+    let (still, slow) = (random.percent(3), random.percent(5));
     point_seconds(random, count, style)
         .into_iter()
         .map(|seconds| {
             let mut point = point(random, seconds, style);
             if still {
                 point.velocity_head = 0;
+            } else if slow {
+                point.velocity_head = random.within(1..=SLOW_HEAD) as u16;
             }
             point
         })
