@@ -13,7 +13,8 @@ use Rattle.readings.proofs.Ranges.{within-greatest}
 use Rattle.fields.specs.declared.trouble.Trouble.{Trouble}
 use Rattle.fields.specs.declared.trouble.Trouble.the-variants.{Clear, At}
 use Rattle.findings.specs.Listing.{mostFindings}
-use Rattle.job.specs.Places.{runCountOf, runOf}
+use Rattle.opening.specs.Opening.{runCountOf}
+use Rattle.job.specs.Places.{runOf}
 use Rattle.job.specs.Troubles.{jobTrouble}
 use Rattle.job.proofs.ClearJobs.{job-clear, clear-run}
 use Rattle.demands.proofs.Numbers.{numbers}

@@ -24,9 +24,10 @@ use Rattle.parts.specs.Values.{pointPlace, segmentPlace, pointTotal, segmentTot
 use Rattle.heads.specs.Rows.{certificateRows}
 use Rattle.parts.specs.Rows.{pointRows, segmentRows}
 use Rattle.fields.proofs.RecordTrouble.{whole-at}
-use Rattle.job.specs.Places.{certificateCountOf, runCountOf, nextStart, runStart, longestRun, longestJob}
+use Rattle.opening.specs.Opening.{certificateCountOf, runCountOf, fileTrouble}
+use Rattle.job.specs.Places.{nextStart, runStart, longestRun, longestJob}
 use Rattle.entries.specs.Entries.{sameCertificate, entryTrouble}
-use Rattle.job.specs.Troubles.{fileTrouble, certificatesTrouble, goodSeconds, partsTrouble, numberBefore, runTrouble, runsTrouble, endTrouble, jobTrouble}
+use Rattle.job.specs.Troubles.{certificatesTrouble, goodSeconds, partsTrouble, numberBefore, runTrouble, runsTrouble, endTrouble, jobTrouble}
 use Rattle.demands.proofs.Fronts.{Front, front-of, front-same, certificate-count-front, run-count-front, file-rows-front, certificate-front, header-front, header-rows-front, point-front, segment-front, weighing-rows-front}
 use Rattle.entries.proofs.LookBack.{any-ext}
 use Rattle.job.proofs.Reach.{Few, few-parts, start-reach}

@@ -13,14 +13,15 @@ use Rattle.fields.specs.declared.trouble.Trouble.{Trouble}
 use Rattle.fields.specs.declared.trouble.Trouble.the-variants.{Clear, At}
 use Rattle.fields.specs.Trouble.{first, troubleUnless, repeated, wrongSeconds, leftOver, Row}
 use Rattle.fields.proofs.FirstTrouble.{first-clear, first-at, unless-clear, told, each, checks-told, stops}
-use Rattle.heads.specs.Values.{fileHeaderSize, runHeaderSize, certificatePlace, certificateOf}
+use Rattle.opening.specs.Opening.{fileHeaderSize, certificateCountOf, runCountOf, fileRows, fileTrouble}
+use Rattle.heads.specs.Values.{runHeaderSize, certificatePlace, certificateOf}
 use Rattle.parts.specs.Values.{pointPlace, segmentPlace, runAt}
 use Rattle.parts.specs.Rows.{pointsTrouble, segmentsTrouble, weighingsTrouble}
 use Rattle.records.specs.declared.Counts.{Counts}
 use Rattle.heads.specs.Rows.{certificateTrouble}
-use Rattle.job.specs.Places.{certificateCountOf, runCountOf, runStart}
+use Rattle.job.specs.Places.{runStart}
 use Rattle.entries.specs.Entries.{sameCertificate, repeats, entryTrouble}
-use Rattle.job.specs.Troubles.{fileRows, fileTrouble, certificatesTrouble, goodSeconds, partsTrouble, runTrouble, runsTrouble, numberBefore, endTrouble, jobTrouble}
+use Rattle.job.specs.Troubles.{certificatesTrouble, goodSeconds, partsTrouble, runTrouble, runsTrouble, numberBefore, endTrouble, jobTrouble}
 use Rattle.findings.proofs.Accepting.{and-false}
 use Rattle.entries.proofs.LookBack.{any-stops}
 use Rattle.demands.specs.ReadingOrder.{Fixed, fileHeader, oneCertificate, runHeader, onePoint, oneSegment, oneWeighing, numberOf, countsOf, startOf, sizeOf, rowsOf, Complete, Good, totalOfPoints, totalOfSegments, GoodJob, ReachedCertificate, ReachedRun, ReachedParts, Reached}

@@ -7,7 +7,8 @@ use lib.ListN.{length, take}
 use lib.Seq.{take-all}
 use Rattle.fields.specs.declared.trouble.Trouble.{Trouble}
 use Rattle.fields.specs.declared.trouble.Trouble.the-variants.{Clear, At}
-use Rattle.job.specs.Places.{runCountOf, longestJob}
+use Rattle.opening.specs.Opening.{runCountOf}
+use Rattle.job.specs.Places.{longestJob}
 use Rattle.job.specs.Troubles.{jobTrouble}
 use Rattle.job.proofs.ClearJobs.{job-clear, job-end}
 use Rattle.job.proofs.Reach.{start-reach}

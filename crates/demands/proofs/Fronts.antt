@@ -7,12 +7,11 @@ use native.Mathlib.Omega.{arith}
 use lib.ListN.{length, getD, drop, length-drop}
 use lib.Seq.{drop-append-le}
 use Rattle.fields.specs.Numbers.{byteAt, u16At, u32At, i16At}
-use Rattle.heads.specs.Values.{certificate, header, fileHeaderSize, certificateSize, runHeaderSize}
+use Rattle.opening.specs.Opening.{fileHeaderSize, certificateCountOf, runCountOf, fileRows}
+use Rattle.heads.specs.Values.{certificate, header, certificateSize, runHeaderSize}
 use Rattle.parts.specs.Values.{point, segment, weighing, pointSize, segmentSize, weighingSize}
 use Rattle.heads.specs.Rows.{headerRows}
 use Rattle.parts.specs.Rows.{weighingRows}
-use Rattle.job.specs.Places.{certificateCountOf, runCountOf}
-use Rattle.job.specs.Troubles.{fileRows}
 
 -- c 0, .., c (n - 1), and then the rest
 abbrev laid : ℕ → (ℕ → ℕ) → List ℕ → List ℕ

@@ -21,7 +21,8 @@ use Rattle.records.proofs.Identities.{same-equal, same-refl}
 use Rattle.heads.specs.Values.{runHeaderSize, certificatePlace}
 use Rattle.parts.specs.Values.{pointPlace, segmentPlace, runAt}
 use Rattle.parts.specs.Rows.{pointsTrouble, segmentsTrouble, weighingsTrouble}
-use Rattle.job.specs.Places.{runCountOf, runStart}
+use Rattle.opening.specs.Opening.{runCountOf}
+use Rattle.job.specs.Places.{runStart}
 use Rattle.entries.specs.Entries.{sameCertificate, anyTo, repeats, entryTrouble}
 use Rattle.job.specs.Troubles.{goodSeconds, partsTrouble, runTrouble, runsTrouble, numberBefore, jobTrouble}
 use Rattle.job.proofs.ClearJobs.{job-clear}

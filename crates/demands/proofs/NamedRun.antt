@@ -5,7 +5,8 @@ use mathlib.Core.List.{List}
 use native.Mathlib.Decide.{decLt}
 use native.Mathlib.Omega.{arith}
 use Rattle.fields.specs.declared.trouble.Trouble.the-variants.{Clear}
-use Rattle.job.specs.Places.{runCountOf, runOf}
+use Rattle.opening.specs.Opening.{runCountOf}
+use Rattle.job.specs.Places.{runOf}
 use Rattle.job.specs.Troubles.{jobTrouble}
 use Rattle.job.proofs.ClearJobs.{rising}
 use Rattle.reduction.specs.declared.Which.{Which}

@@ -12,9 +12,10 @@ use Rattle.fields.specs.declared.trouble.Trouble.the-variants.{At}
 use Rattle.fields.proofs.FirstTrouble.{told, first-told, unless-told, up-told}
 use Rattle.records.specs.declared.Counts.{Counts}
 use Rattle.readings.proofs.Ranges.{both-left, both-right}
-use Rattle.heads.specs.Values.{headerAt, certificatePlace, fileHeaderSize, certificateSize, runHeaderSize}
+use Rattle.opening.specs.Opening.{fileHeaderSize, runCountOf}
+use Rattle.heads.specs.Values.{headerAt, certificatePlace, certificateSize, runHeaderSize}
 use Rattle.fields.proofs.RecordTrouble.{told-at}
-use Rattle.job.specs.Places.{runCountOf, runStart}
+use Rattle.job.specs.Places.{runStart}
 use Rattle.entries.specs.Entries.{repeats, entryTrouble}
 use Rattle.job.specs.Troubles.{goodSeconds, partsTrouble, numberBefore, runTrouble, jobTrouble}
 

@@ -9,7 +9,8 @@ use Rattle.fields.specs.declared.trouble.Trouble.the-variants.{Clear}
 use Rattle.certs.specs.Choosing.{Unique, Of}
 use Rattle.certs.proofs.Choosing.{chosenFor-same-members}
 use Rattle.heads.specs.Values.{certificateOf}
-use Rattle.job.specs.Places.{certificateCountOf, runOf}
+use Rattle.opening.specs.Opening.{certificateCountOf}
+use Rattle.job.specs.Places.{runOf}
 use Rattle.job.specs.Troubles.{jobTrouble}
 use Rattle.job.proofs.ClearJobs.{unique}
 use Rattle.reduction.specs.Reducing.{worked, reduction, reducedRun}

@@ -11,7 +11,8 @@ use Rattle.rules.specs.Rules.{fault, classOf}
 use Rattle.findings.specs.declared.Finding.{Finding}
 use Rattle.findings.specs.Listing.{mostFindings, noFinding, linesFor, Breaks, HasFinding}
 use Rattle.heads.specs.Values.{certificateOf}
-use Rattle.job.specs.Places.{certificateCountOf, runCountOf, runOf}
+use Rattle.opening.specs.Opening.{certificateCountOf, runCountOf}
+use Rattle.job.specs.Places.{runOf}
 use Rattle.job.specs.Troubles.{jobTrouble}
 use Rattle.reduction.specs.Reducing.{chosenIn, reducedRun}
 use Rattle.lines.specs.Sheet.{lineCount}

@@ -9,12 +9,12 @@ use Rattle.fields.specs.Trouble.{Row, AllGood}
 use Rattle.records.specs.declared.Certificate.{Certificate}
 use Rattle.records.specs.declared.Counts.{Counts}
 use Rattle.certs.specs.Choosing.{Of}
-use Rattle.heads.specs.Values.{fileHeaderSize, certificateSize, runHeaderSize, certificatePlace, certificateOf, headerAt}
+use Rattle.opening.specs.Opening.{fileHeaderSize, certificateCountOf, runCountOf, fileRows}
+use Rattle.heads.specs.Values.{certificateSize, runHeaderSize, certificatePlace, certificateOf, headerAt}
 use Rattle.heads.specs.Rows.{certificateRows, headerRows}
 use Rattle.parts.specs.Values.{pointSize, segmentSize, weighingSize, pointPlace, segmentPlace, weighingPlace, pointAt, segmentAt, weighingAt, pointTotal, segmentTotal}
 use Rattle.parts.specs.Rows.{pointRows, segmentRows, weighingRows}
-use Rattle.job.specs.Places.{certificateCountOf, runCountOf, runStart, runOf}
-use Rattle.job.specs.Troubles.{fileRows}
+use Rattle.job.specs.Places.{runStart, runOf}
 
 -- The file's header, and the parts of fixed size behind it: certificate k, the header of run k, and its point, segment or weighing i
 pub data Fixed : Type 0 where

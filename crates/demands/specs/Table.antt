@@ -10,8 +10,8 @@ use Rattle.readings.specs.Ranges.{greatestTotalSeconds}
 use Rattle.fields.specs.Numbers.{u16At}
 use Rattle.fields.specs.Trouble.{Row}
 use Rattle.heads.specs.Values.{certificatePlace, certificateOf}
-use Rattle.job.specs.Places.{runCountOf, runStart}
-use Rattle.job.specs.Troubles.{marked}
+use Rattle.opening.specs.Opening.{runCountOf, marked}
+use Rattle.job.specs.Places.{runStart}
 use Rattle.reduction.specs.Reducing.{reducedRun}
 use Rattle.writing.specs.Bytes.{sheetSize, findingSize}
 use Rattle.demands.specs.ReadingOrder.{Fixed, fileHeader, oneCertificate, runHeader, numberOf, startOf, sizeOf, rowsOf, Complete, Good, Repeats, totalOfPoints, totalOfSegments, GoodJob, ReachedCertificate, ReachedRun, ReachedSeconds, ReachedEnd, Reached}

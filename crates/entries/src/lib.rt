@@ -47,7 +47,7 @@ fn entry_trouble(s: &[u8], k: usize) -> Trouble
     requires { ⌜ k < greatestCertificateCount ⌝ }
     ensures { λ r. ⌜ r ≡ entryTrouble (now (s .entry)) k ⌝ }
 {
-    let at = heads::FILE_HEADER_SIZE + certificate::SIZE * k;
+    let at = opening::SIZE + certificate::SIZE * k;
     let t = certificate::trouble(s, at);
     let Trouble::Clear = t else {
         return t;

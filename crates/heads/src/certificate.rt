@@ -38,7 +38,7 @@ pub fn nth(s: &[u8], k: usize) -> Certificate
     requires { ⌜ certificatePlace k + certificateSize ≤ length (now s) ⌝ }
     ensures { λ r. ⌜ r ≡ certificateOf (now (s .entry)) k ⌝ }
 {
-    certificate(&s[crate::FILE_HEADER_SIZE + SIZE * k..])
+    certificate(&s[opening::SIZE + SIZE * k..])
 }
 
 // Whether the first value is in range, which goes by the kind.

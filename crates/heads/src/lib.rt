@@ -5,6 +5,3 @@
 pub mod certificate;
 pub mod header;
 pub mod identity;
-
-// The file's own header, behind which the certificates stand.
-pub const FILE_HEADER_SIZE: usize = 9;

@@ -20,9 +20,10 @@ use Rattle.heads.specs.Values.{headerAt, certificatePlace, certificateOf}
 use Rattle.parts.specs.Values.{runAt, RunWithin}
 use Rattle.heads.proofs.InRange.{certificate-ok}
 use Rattle.parts.proofs.InRange.{run-ok}
-use Rattle.job.specs.Places.{certificateCountOf, runCountOf, runStart, runOf}
+use Rattle.opening.specs.Opening.{certificateCountOf, runCountOf, fileTrouble}
+use Rattle.job.specs.Places.{runStart, runOf}
 use Rattle.entries.specs.Entries.{sameCertificate, repeats, entryTrouble}
-use Rattle.job.specs.Troubles.{fileTrouble, certificatesTrouble, numberBefore, runsTrouble, jobTrouble}
+use Rattle.job.specs.Troubles.{certificatesTrouble, numberBefore, runsTrouble, jobTrouble}
 use Rattle.job.proofs.ClearRuns.{RunClear, run-clear, run-fits}
 use Rattle.entries.proofs.LookBack.{none-of}
 use Rattle.job.proofs.WholeFile.{certificates-fit}

@@ -17,11 +17,12 @@ use Rattle.fields.proofs.FirstTrouble.{each, clear-left, each-clear, checks-rea
 use Rattle.readings.proofs.Ranges.{within-greatest}
 use Rattle.records.specs.declared.Counts.{Counts}
 use Rattle.heads.proofs.InRange.{header-ok}
-use Rattle.heads.specs.Values.{headerAt, certificatePlace, fileHeaderSize, certificateSize, runHeaderSize}
+use Rattle.opening.specs.Opening.{fileHeaderSize, runCountOf, fileTrouble}
+use Rattle.heads.specs.Values.{headerAt, certificatePlace, certificateSize, runHeaderSize}
 use Rattle.heads.specs.Rows.{headerTrouble}
-use Rattle.job.specs.Places.{runCountOf, runStart, longestRun, longestJob}
+use Rattle.job.specs.Places.{runStart, longestRun, longestJob}
 use Rattle.entries.specs.Entries.{repeats, entryTrouble}
-use Rattle.job.specs.Troubles.{fileTrouble, goodSeconds, partsTrouble, numberBefore, runTrouble, runsTrouble, jobTrouble}
+use Rattle.job.specs.Troubles.{goodSeconds, partsTrouble, numberBefore, runTrouble, runsTrouble, jobTrouble}
 use Rattle.job.proofs.ClearRuns.{run-clear}
 use Rattle.job.proofs.WholeFile.{certificate-count, run-count}
 

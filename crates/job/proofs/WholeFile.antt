@@ -14,12 +14,13 @@ use Rattle.fields.proofs.FirstTrouble.{clear-left, each-clear, first-met}
 use Rattle.readings.proofs.Ranges.{within-greatest}
 use Rattle.arrays.specs.Arrays.{padded}
 use Rattle.fields.proofs.RecordTrouble.{complete-at, good-at}
-use Rattle.heads.specs.Values.{certificatePlace, fileHeaderSize, certificateSize}
+use Rattle.opening.specs.Opening.{fileHeaderSize, certificateCountOf, runCountOf, fileRows, fileTrouble}
+use Rattle.heads.specs.Values.{certificatePlace, certificateSize}
 use Rattle.job.specs.declared.Job.{Job}
 use Rattle.job.specs.declared.runs.Walk.{Walk}
-use Rattle.job.specs.Places.{certificateCountOf, runCountOf, runStart}
+use Rattle.job.specs.Places.{runStart}
 use Rattle.entries.specs.Entries.{entryTrouble}
-use Rattle.job.specs.Troubles.{fileRows, fileTrouble, runsTrouble, endTrouble, jobTrouble}
+use Rattle.job.specs.Troubles.{runsTrouble, endTrouble, jobTrouble}
 use Rattle.job.specs.Walks.{stopped, walkOf, walk}
 use Rattle.job.specs.Reading.{refusedJob, jobOf, readJob}
 

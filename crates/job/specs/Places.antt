@@ -1,17 +1,10 @@
 -- Where the certificates and the runs of a job stand (docs/RULES.md, The job file): a header of 9 bytes, the certificates, the runs, one after the other.
 use Prim.Native.Nat.{ℕ, zero, suc}
 use mathlib.Core.List.{List}
-use Rattle.fields.specs.Numbers.{u16At}
+use Rattle.opening.specs.Opening.{certificateCountOf}
 use Rattle.records.specs.declared.Run.{Run}
 use Rattle.heads.specs.Values.{certificatePlace, headerAt}
 use Rattle.parts.specs.Values.{runAt, runEnd}
-
--- how many certificates and how many runs the header announces
-abbrev pub certificateCountOf : List ℕ → ℕ
-certificateCountOf s = u16At s 5
-
-abbrev pub runCountOf : List ℕ → ℕ
-runCountOf s = u16At s 7
 
 -- the place after the run that starts at a place
 abbrev pub nextStart : List ℕ → ℕ → ℕ

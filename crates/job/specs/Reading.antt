@@ -7,7 +7,8 @@ use Rattle.fields.specs.declared.trouble.Trouble.{Trouble}
 use Rattle.fields.specs.declared.trouble.Trouble.the-variants.{Clear, At}
 use Rattle.arrays.specs.Arrays.{padded}
 use Rattle.job.specs.declared.Job.{Job}
-use Rattle.job.specs.Places.{certificateCountOf, runCountOf, runStart}
+use Rattle.opening.specs.Opening.{certificateCountOf, runCountOf}
+use Rattle.job.specs.Places.{runStart}
 use Rattle.job.specs.Troubles.{jobTrouble}
 
 -- a job in trouble holds nothing

@@ -1,38 +1,20 @@
 -- The first trouble of a job, in the order of docs/RULES.md, Refusals: header, certificates, runs, bytes left over.
 use Prim.Native.Nat.{ℕ, zero, suc, _+_}
 use mathlib.Core.Bool.{Bool, _&&_}
-use mathlib.Core.List.{List, [], _∷_}
+use mathlib.Core.List.{List}
 use lib.Dec.{leb, ltb, eqb}
 use lib.ListN.{length}
 use Rattle.fields.specs.declared.trouble.Trouble.{Trouble}
-use Rattle.fields.specs.Numbers.{byteAt, u16At}
-use Rattle.fields.specs.Trouble.{first, troubleUnless, wrongMark, wrongVersion, repeated, wrongSeconds, leftOver, Row, count, upTo, recordTrouble}
-use Rattle.readings.specs.Ranges.{certificateCount, runCount, totalSeconds}
+use Rattle.fields.specs.Trouble.{first, troubleUnless, repeated, wrongSeconds, leftOver, upTo}
+use Rattle.readings.specs.Ranges.{totalSeconds}
 use Rattle.records.specs.declared.Counts.{Counts}
-use Rattle.heads.specs.Values.{headerAt, fileHeaderSize, runHeaderSize}
+use Rattle.opening.specs.Opening.{certificateCountOf, runCountOf, fileTrouble}
+use Rattle.heads.specs.Values.{headerAt, runHeaderSize}
 use Rattle.entries.specs.Entries.{entryTrouble}
 use Rattle.parts.specs.Values.{pointPlace, segmentPlace, pointTotal, segmentTotal}
 use Rattle.heads.specs.Rows.{headerTrouble}
 use Rattle.parts.specs.Rows.{pointsTrouble, segmentsTrouble, weighingsTrouble}
-use Rattle.job.specs.Places.{certificateCountOf, runCountOf, runStart}
-
--- The header
-
--- "SRJ"
-abbrev pub marked : List ℕ → Bool
-marked s = eqb (byteAt s 0) 83 && (eqb (byteAt s 1) 82 && eqb (byteAt s 2) 74)
-
--- Header, 9 bytes
-abbrev pub fileRows : List ℕ → List Row
-fileRows s =
-    record { number = wrongMark; place = 0; ok = marked s }
-    ∷ record { number = wrongVersion; place = 3; ok = eqb (u16At s 3) 1 }
-    ∷ count 5 (certificateCount (certificateCountOf s))
-    ∷ count 7 (runCount (runCountOf s))
-    ∷ []
-
-abbrev pub fileTrouble : List ℕ → Trouble
-fileTrouble s = recordTrouble s 0 fileHeaderSize (fileRows s)
+use Rattle.job.specs.Places.{runStart}
 
 -- Certificates
 

@@ -1,7 +1,6 @@
 // The walk over a whole job file, from the front to the first trouble met or to the end.
 // Holds no heap and copies no record: a job is its counts and the place of each run. Relies on the records of parts.
 
-pub mod file;
 mod runs;
 
 use fields::numbers;
@@ -10,7 +9,7 @@ use heads::certificate;
 use readings::headers::RunCount;
 ghost use mathlib.Core.Path.{_≡_};
 ghost use Rattle.fields.specs.declared.trouble.Trouble.the-variants.{Clear};
-ghost use Rattle.job.specs.Troubles.{fileTrouble};
+ghost use Rattle.opening.specs.Opening.{fileTrouble};
 ghost use Rattle.job.specs.Reading.{refusedJob, readJob};
 
 // What a file holds. A job in trouble holds nothing: no certificates, no runs, and zeros for places.
@@ -36,7 +35,7 @@ fn refused_job(t: Trouble) -> Job
 pub fn read(s: &[u8]) -> Job
     ensures { λ r. ⌜ r ≡ readJob (now (s .entry)) ⌝ }
 {
-    let t = file::trouble(s);
+    let t = opening::trouble(s);
     let Trouble::Clear = t else {
         return refused_job(t);
     };
@@ -48,13 +47,13 @@ pub fn read_records(s: &[u8]) -> Job
     requires { ⌜ fileTrouble (now s) ≡ Clear ⌝ }
     ensures { λ r. ⌜ r ≡ readJob (now (s .entry)) ⌝ }
 {
-    let certificates = numbers::u16_at(s, file::CERTIFICATES_AT) as usize;
-    let runs = numbers::u16_at(s, file::RUNS_AT) as usize;
+    let certificates = numbers::u16_at(s, opening::CERTIFICATES_AT) as usize;
+    let runs = numbers::u16_at(s, opening::RUNS_AT) as usize;
     let t = entries::troubles(s, certificates);
     let Trouble::Clear = t else {
         return refused_job(t);
     };
-    let first = heads::FILE_HEADER_SIZE + certificate::SIZE * certificates;
+    let first = opening::SIZE + certificate::SIZE * certificates;
     let w = runs::read(s, first, runs);
     let t = w.trouble;
     let Trouble::Clear = t else {

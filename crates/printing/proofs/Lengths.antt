@@ -6,7 +6,8 @@ use native.Mathlib.Omega.{arith}
 use lib.ListN.{length, length-append}
 use Rattle.fields.specs.declared.trouble.Trouble.{Trouble}
 use Rattle.fields.specs.declared.trouble.Trouble.the-variants.{Clear, At}
-use Rattle.job.specs.Places.{runCountOf, runOf}
+use Rattle.opening.specs.Opening.{runCountOf}
+use Rattle.job.specs.Places.{runOf}
 use Rattle.job.specs.Troubles.{jobTrouble}
 use Rattle.job.proofs.ClearJobs.{job-clear, clear-run}
 use Rattle.job.proofs.WholeFile.{run-count}

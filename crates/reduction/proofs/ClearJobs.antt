@@ -13,7 +13,8 @@ use Rattle.fields.specs.declared.trouble.Trouble.the-variants.{Clear, At}
 use Rattle.arrays.proofs.Arrays.{pad-at}
 use Rattle.parts.proofs.Places.{enough}
 use Rattle.job.specs.declared.Job.{Job}
-use Rattle.job.specs.Places.{certificateCountOf, runCountOf, runStart, runOf}
+use Rattle.opening.specs.Opening.{certificateCountOf, runCountOf}
+use Rattle.job.specs.Places.{runStart, runOf}
 use Rattle.job.specs.Reading.{jobOf, readJob}
 use Rattle.job.proofs.ClearJobs.{job-clear, clear-run, clear-certificate, run-within, certificates-within}
 use Rattle.job.proofs.Reach.{places}

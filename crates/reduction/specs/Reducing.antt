@@ -17,7 +17,8 @@ use Rattle.certs.specs.InRange.{CertificatesOk}
 use Rattle.findings.specs.Listing.{accepted, linesFor, findingsFor, listed}
 use Rattle.heads.specs.Values.{certificatePlace, certificateOf}
 use Rattle.job.specs.declared.Job.{Job}
-use Rattle.job.specs.Places.{certificateCountOf, runCountOf, runOf}
+use Rattle.opening.specs.Opening.{certificateCountOf, runCountOf}
+use Rattle.job.specs.Places.{runOf}
 use Rattle.job.specs.Reading.{readJob}
 use Rattle.job.specs.Troubles.{jobTrouble}
 use Rattle.reduction.specs.declared.Reduced.{Reduced}

@@ -7,7 +7,8 @@ use lib.ListN.{length, getD, drop}
 use Rattle.fields.specs.declared.trouble.Trouble.the-variants.{At}
 use Rattle.fields.specs.Numbers.{u16At}
 use Rattle.job.specs.declared.Job.{Job}
-use Rattle.job.specs.Places.{runCountOf, runOf}
+use Rattle.opening.specs.Opening.{runCountOf}
+use Rattle.job.specs.Places.{runOf}
 use Rattle.job.specs.Reading.{readJob}
 use Rattle.parts.specs.Values.{runAt}
 use Rattle.reduction.specs.declared.Reduced.{Reduced}

@@ -7,7 +7,8 @@ use lib.Dec.{leb, ltb}
 use lib.ListN.{length}
 use Rattle.fields.specs.declared.trouble.Trouble.{Trouble}
 use Rattle.fields.specs.declared.trouble.Trouble.the-variants.{Clear, At}
-use Rattle.job.specs.Places.{runCountOf, runOf}
+use Rattle.opening.specs.Opening.{runCountOf}
+use Rattle.job.specs.Places.{runOf}
 use Rattle.job.specs.Troubles.{jobTrouble}
 use Rattle.reduction.specs.declared.Reduced.{Reduced}
 use Rattle.reduction.specs.declared.Which.{Which}

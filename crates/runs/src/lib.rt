@@ -49,7 +49,7 @@ fn hand_over(done: Reduced, lines: &mut [u8], findings: &mut [u8]) -> Answer
 pub fn reduce(job: &[u8], run: u16, lines: &mut [u8], findings: &mut [u8]) -> Answer
     ensures { λ r. ⌜ Answers (now (job .entry)) run (now (lines .entry)) (now (findings .entry)) (now (lines .exit)) (now (findings .exit)) r ⌝ }
 {
-    let header = job::file::trouble(job);
+    let header = opening::trouble(job);
     if let Trouble::At(number, place) = header {
         return Answer::Refused(number, place as u32);
     }

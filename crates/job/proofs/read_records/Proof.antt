@@ -11,7 +11,8 @@ use Rattle.fields.specs.Trouble.{first, upTo}
 use Rattle.fields.proofs.FirstTrouble.{first-met, first-passed}
 use Rattle.arrays.specs.Arrays.{padded}
 use Rattle.fields.proofs.RecordTrouble.{complete-at}
-use Rattle.heads.specs.Values.{certificatePlace, fileHeaderSize}
+use Rattle.opening.specs.Opening.{fileHeaderSize}
+use Rattle.heads.specs.Values.{certificatePlace}
 use Rattle.job.specs.declared.runs.Walk.{Walk}
 use Rattle.job.specs.Places.{runStart}
 use Rattle.entries.specs.Entries.{entryTrouble}

@@ -3,13 +3,13 @@ use Prim.Native.Nat.{ℕ}
 use mathlib.Core.Path.{refl, ap, _∙_}
 use borrow.Author.Needs.{needs}
 use lib.Dec.{eqb}
-use Rattle.heads.specs.Values.{fileHeaderSize}
+use Rattle.opening.specs.Opening.{fileHeaderSize}
 use Rattle.fields.specs.Trouble.{checks}
 use Rattle.fields.proofs.FirstTrouble.{step, from-zero}
 use Rattle.readings.specs.Ranges.{certificateCount, runCount}
 use Rattle.fields.proofs.RecordTrouble.{short-at, whole-at}
-use Rattle.job.proofs.file.trouble.Statement.{statement}
-use Rattle.job.proofs.file.trouble.Tie as tie
+use Rattle.opening.proofs.trouble.Statement.{statement}
+use Rattle.opening.proofs.trouble.Tie as tie
 
 returns : tie.Need-returns
 returns c = short-at (c .before .before .args .s .now) 0 fileHeaderSize _ refl (c .if1 .taken)

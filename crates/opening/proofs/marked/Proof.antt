@@ -5,8 +5,8 @@ use borrow.Author.Tests.{eq-eqb, ne-eqb}
 use borrow.Author.Needs.{needs}
 use lib.Dec.{eqb}
 use Rattle.readings.proofs.EarlyAnswers.{fails, passes}
-use Rattle.job.proofs.file.marked.Statement.{statement}
-use Rattle.job.proofs.file.marked.Tie as tie
+use Rattle.opening.proofs.marked.Statement.{statement}
+use Rattle.opening.proofs.marked.Tie as tie
 
 byte-requires : tie.Need-byte-requires
 byte-requires c κs = search needs

@@ -1,4 +1,6 @@
-// The header of a job file, 9 bytes: mark, version, and how many certificates and runs follow.
+// The header of a job file: mark, version, and how many certificates and runs follow; and the trouble met in it, by which a
+// file that is no job is told before anything else of it is looked at. Relies on the numbers and the trouble of fields and on
+// the kinds of reading.
 
 use fields::numbers;
 use fields::trouble::Trouble;
@@ -7,8 +9,10 @@ use readings::headers::RunCount;
 ghost use mathlib.Core.Path.{_≡_};
 ghost use Prim.Native.Nat.{_≤_};
 ghost use lib.ListN.{length};
-ghost use Rattle.heads.specs.Values.{fileHeaderSize};
-ghost use Rattle.job.specs.Troubles.{marked, fileTrouble};
+ghost use Rattle.opening.specs.Opening.{fileHeaderSize, marked, fileTrouble};
+
+// How many bytes it has; the certificates stand behind it.
+pub const SIZE: usize = 9;
 
 const VERSION: u16 = 1;
 
@@ -34,7 +38,7 @@ fn marked(s: &[u8]) -> bool
 pub fn trouble(s: &[u8]) -> Trouble
     ensures { λ r. ⌜ r ≡ fileTrouble (now (s .entry)) ⌝ }
 {
-    if s.len() < heads::FILE_HEADER_SIZE {
+    if s.len() < SIZE {
         return Trouble::At(Trouble::INCOMPLETE, s.len());
     }
     let t = Trouble::Clear;
