@@ -46,8 +46,8 @@ pub fn nearest_root(y: u64) -> u64
     if odd * odd <= y { whole + 1 } else { whole }
 }
 
-// The whole part of the square root of x. The mean of a bound and of x divided by it is never below that, and it is a
-// closer bound as long as there is one.
+// The whole part of the square root of x. The mean of a bound and of x divided by it is never below that part, and where
+// the bound's square is above x it is a closer bound.
 fn whole_root(x: u64) -> u64
     ensures { λ r. ⌜ r ≡ wholeRoot x ⌝ }
 {
@@ -58,7 +58,7 @@ fn whole_root(x: u64) -> u64
     bound
 }
 
-// The first bound, from the length of x in bits: the mean of a power of two of half that length and of x divided by it.
+// The first bound, from the length of x in bits: the mean of the power of two of half that length and of x divided by it.
 fn first_bound(x: u64) -> u64
     ensures { λ r. ⌜ r ≡ firstBound x ⌝ }
 {

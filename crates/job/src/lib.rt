@@ -42,7 +42,7 @@ pub fn read(s: &[u8]) -> Job
     read_records(s)
 }
 
-// The same of a file whose header is in no trouble.
+// The same where the header is known to be in no trouble.
 pub fn read_records(s: &[u8]) -> Job
     requires { ⌜ fileTrouble (now s) ≡ Clear ⌝ }
     ensures { λ r. ⌜ r ≡ readJob (now (s .entry)) ⌝ }

@@ -35,6 +35,7 @@ fn marked(s: &[u8]) -> bool
     numbers::byte(s, 2) == 74
 }
 
+// The first trouble met in the header.
 pub fn trouble(s: &[u8]) -> Trouble
     ensures { λ r. ⌜ r ≡ fileTrouble (now (s .entry)) ⌝ }
 {

@@ -45,7 +45,8 @@ fn hand_over(done: Reduced, lines: &mut [u8], findings: &mut [u8]) -> Answer
     Answer::Done(success(found.count, done.accepted))
 }
 
-// Works the run of that number into two buffers.
+// Works the run of that number into two buffers. The header is judged by itself, so that a file which is no job is
+// answered before anything is made ready for one.
 pub fn reduce(job: &[u8], run: u16, lines: &mut [u8], findings: &mut [u8]) -> Answer
     ensures { λ r. ⌜ Answers (now (job .entry)) run (now (lines .entry)) (now (findings .entry)) (now (lines .exit)) (now (findings .exit)) r ⌝ }
 {
