@@ -1,9 +1,12 @@
 //! The values to try a program on of docs/RULES.md that no theorem has: layouts,
-//! the worked job with the least gas, and the worked job made bad.
+//! the worked job in a slow stack, with the least gas, and made bad.
 
 use leverbonnet::{rect_distances, reduce_run, round_distances, run_numbers, Error};
 
 const WORKED: &[u8] = include_bytes!("../../examples/worked.job");
+
+/// Where the points of the worked job start.
+const POINTS: [usize; 8] = [137, 149, 161, 173, 185, 197, 209, 221];
 
 /// Number and place of the refusal of a job.
 fn refused(job: &[u8]) -> (u32, u32) {
@@ -38,23 +41,39 @@ fn a_rectangular_layout() {
     assert_eq!(laid_out[..3], [[2083, 5017], [6250, 5017], [10417, 5017]]);
 }
 
+fn put(job: &mut [u8], place: usize, value: u16) {
+    job[place..place + 2].copy_from_slice(&value.to_le_bytes());
+}
+
+/// The values of these lines of run 7.
+fn values<const N: usize>(job: &[u8], lines: [usize; N]) -> [Option<i64>; N] {
+    let run = reduce_run(job, 7).unwrap();
+    lines.map(|line| run.lines[line - 1].value)
+}
+
+#[test]
+fn a_slow_stack() {
+    let mut job = WORKED.to_vec();
+    for point in POINTS {
+        put(&mut job, point + 2, 3);
+    }
+    let expected = [5_477, 8_741, 3_438, 128_847].map(Some);
+    assert_eq!(values(&job, [13, 14, 15, 18]), expected);
+}
+
 #[test]
 fn the_least_dry_volume() {
     let mut job = with(110, &100_001u32.to_le_bytes());
-    let mut put = |place: usize, value: u16| {
-        job[place..place + 2].copy_from_slice(&value.to_le_bytes());
-    };
     for (place, value) in [(19, 9_000), (35, 9_000), (98, 2_000), (235, 0)] {
-        put(place, value);
+        put(&mut job, place, value);
     }
-    for point in (137..233).step_by(12) {
-        put(point + 4, 0);
-        put(point + 8, 1_500);
-        put(point + 10, 1_500);
+    for point in POINTS {
+        put(&mut job, point + 4, 0);
+        put(&mut job, point + 8, 1_500);
+        put(&mut job, point + 10, 1_500);
     }
-    let lines = reduce_run(&job, 7).unwrap().lines;
-    let values: Vec<_> = lines[2..6].iter().map(|line| line.value).collect();
-    assert_eq!(values, [1, 200_000, 6_100, 1].map(Some));
+    let expected = [1, 200_000, 6_100, 1].map(Some);
+    assert_eq!(values(&job, [3, 4, 5, 6]), expected);
 }
 
 #[test]
