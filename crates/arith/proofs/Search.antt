@@ -55,7 +55,7 @@ pub record Bound (x b : ℕ) : Type 0 where
   pub small : b ≤ 4294967295
 
 -- what the length of x in bits says of x
-pub bit-length : (x : ℕ) → x < 2 ^ 64 → (bitLength x ≤ 64) × (x < 2 ^ bitLength x)
+bit-length : (x : ℕ) → x < 2 ^ 64 → (bitLength x ≤ 64) × (x < 2 ^ bitLength x)
 bit-length x fits =
     let long = leading-length 64 x fits in
     let length : bitLength x ≡ long .0 = omega (arith, long .1) in

@@ -2,7 +2,7 @@
 use Prim.Native.Nat.{ℕ, _-_, _*_, _≤_}
 use native.Mathlib.Nat.{le-refl, mul-le-mul, mul-le-mul-left}
 use Rattle.readings.specs.Ranges.{greatestCoefficient}
-use Rattle.stack.specs.Promise.{greatestRoot}
+use Rattle.stack.specs.Promise.{greatestRoot, greatestDensityRoot}
 
 -- Line 10
 pub wet-most : {dry : ℕ} (w : ℕ) → dry ≤ 44000 → dry * (100000 - w) ≤ 44000 * (100000 - w)
@@ -22,5 +22,5 @@ density-divisor-most hp hw = mul-le-mul hp hw
 pub velocity-product : {k mean : ℕ} → k ≤ greatestCoefficient → mean ≤ greatestRoot → 8549 * k * mean ≤ 8549 * greatestCoefficient * greatestRoot
 velocity-product hk hm = mul-le-mul (mul-le-mul-left 8549 hk) hm
 
-pub velocity-numerator : {k mean q : ℕ} → k ≤ greatestCoefficient → mean ≤ greatestRoot → q ≤ 27714 → 8549 * k * mean * q ≤ 8549 * greatestCoefficient * greatestRoot * 27714
+pub velocity-numerator : {k mean q : ℕ} → k ≤ greatestCoefficient → mean ≤ greatestRoot → q ≤ greatestDensityRoot → 8549 * k * mean * q ≤ 8549 * greatestCoefficient * greatestRoot * greatestDensityRoot
 velocity-numerator hk hm hq = mul-le-mul (velocity-product hk hm) hq
