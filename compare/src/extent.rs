@@ -43,7 +43,7 @@ pub const FULL: Extent = Extent {
     },
 };
 
-/// Few enough for emulated calls, of which there are then some 520,000, and for
+/// Few enough for emulated calls, of which there are then some 530,000, and for
 /// emulated programs, of which each sheet starts one.
 pub const LIGHT: Extent = Extent {
     damaged_jobs: 9_000,

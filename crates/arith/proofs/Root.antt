@@ -18,8 +18,13 @@ square-double a =
 pub square-mono : {a b : ℕ} → a ≤ b → a * a ≤ b * b
 square-mono h = mul-le-mul h h
 
-next-le : (a b : ℕ) → a < b → a + 1 ≤ b
-next-le a b h = omega arith
+-- a number whose square is at most y is below one whose square is above it
+pub square-lt : {y : ℕ} (a b : ℕ) → a * a ≤ y → y < b * b → a < b
+square-lt {y} a b low high = go (decLe b a)
+  where
+    go : Dec (b ≤ a) → a < b
+    go (yes h) = absurd (not-le-of-lt high (le-trans (square-mono h) low))
+    go (no f) = lt-of-not-le f
 
 -- r is the whole part of the square root of y
 pub record IsWhole (y r : ℕ) : Type 0 where
@@ -59,11 +64,7 @@ whole-is y h = floor-is 32 y h
 
 -- only one number is the whole part
 whole-le : {y r s : ℕ} → IsWhole y r → IsWhole y s → r ≤ s
-whole-le {y} {r} {s} i j = go (decLe r s)
-  where
-    go : Dec (r ≤ s) → r ≤ s
-    go (yes t) = t
-    go (no f) = absurd (not-le-of-lt (j .high) (le-trans (square-mono (next-le s r (lt-of-not-le f))) (i .low)))
+whole-le {y} {r} {s} i j = let below : r < s + 1 = square-lt r (s + 1) (i .low) (j .high) in omega arith
 
 pub whole-unique : {y r s : ℕ} → IsWhole y r → IsWhole y s → r ≡ s
 whole-unique i j = le-antisymm (whole-le i j) (whole-le j i)
@@ -83,14 +84,7 @@ nearest-is y h = halved-is y (wholeRoot y) (whole-is y h)
 
 -- What lies at or above its lower inequality is no higher than what its upper inequality lies below
 pub root-le : {y : ℕ} (q m : ℕ) → (2 * q - 1) * (2 * q - 1) ≤ y → y < (2 * m + 1) * (2 * m + 1) → q ≤ m
-root-le {y} q m low high = go (decLe q m)
-  where
-    go : Dec (q ≤ m) → q ≤ m
-    go (yes t) = t
-    go (no f) =
-        let above : m < q = lt-of-not-le f in
-        let apart : 2 * m + 1 ≤ 2 * q - 1 = omega arith in
-        absurd (not-le-of-lt high (le-trans (square-mono apart) low))
+root-le q m low high = let below : 2 * q - 1 < 2 * m + 1 = square-lt (2 * q - 1) (2 * m + 1) low high in omega arith
 
 -- Only one number is the root
 pub root-unique : {y p q : ℕ} → IsRoot y p → IsRoot y q → p ≡ q

@@ -1,14 +1,14 @@
 -- What the search for a root goes by: it begins at a bound that the length in bits gives, goes from bound to closer bound by a mean, and ends
 -- at the whole part of the root, from which the nearest root is one step.
-use Prim.Native.Nat.{ℕ, zero, suc, _+_, _-_, _*_, _/_, _^_, _≤_, _<_}
+use Prim.Native.Nat.{ℕ, _+_, _-_, _*_, _/_, _^_, _≤_, _<_}
 use mathlib.Core.Path.{_≡_, _∙_}
-use native.Mathlib.Nat.{mul-add, add-mul, add-comm, mul-comm, mul-one, mul-le-mul, le-trans, le-of-lt, lt-of-lt-of-le, lt-of-not-le, lt-div-mul-add, div-lt-iff-lt-mul}
+use native.Mathlib.Nat.{mul-add, add-mul, add-comm, mul-comm, mul-one, le-trans, le-of-lt, lt-of-lt-of-le, lt-of-not-le, lt-div-mul-add, div-lt-iff-lt-mul}
 use native.Mathlib.Decide.{decLe}
 use native.Mathlib.Omega.{arith}
 use lib.Count.{leading-length}
 use lib.Pow.{pow-mono, pow-pos, shr-lt}
 use Rattle.arith.specs.Root.{wholeRoot, nearestRoot, bitLength, meanBound, firstBound}
-use Rattle.arith.proofs.Root.{square-double, square-mono, digit-low, digit-high, IsWhole, whole-is, whole-unique, nearest-is, root-unique}
+use Rattle.arith.proofs.Root.{square-double, square-mono, square-lt, digit-low, digit-high, IsWhole, whole-is, whole-unique, nearest-is, root-unique}
 
 -- Four times a product is at most the square of the sum
 sum-squared : (a k : ℕ) → 4 * (a * (a + k)) ≤ (a + (a + k)) * (a + (a + k))
@@ -41,13 +41,9 @@ mean-above x b some =
 -- and where b is above the root it is closer
 pub mean-below : (x b : ℕ) → x < b * b → (0 < b) × ((x / b < b) × (meanBound x b < b))
 mean-below x b above =
-    let some : 0 < b = root-some b above in
+    let some : 0 < b = square-lt 0 b (omega arith) above in
     let share : x / b < b = div-lt-iff-lt-mul some .1 above in
     (some, (share, omega arith))
-  where
-    root-some : {x : ℕ} (b : ℕ) → x < b * b → 0 < b
-    root-some zero h = absurd (omega arith)
-    root-some (suc b) h = omega arith
 
 -- b is no lower than the whole part of the root of x, and no higher than the search can square
 pub record Bound (x b : ℕ) : Type 0 where
@@ -93,13 +89,10 @@ module _ (y w : ℕ) (fits : y < 2 ^ 64) (e : w ≡ wholeRoot (y / 4)) where
   half-is = rw e (whole-is (y / 4) (omega arith))
 
   pub half-most : w ≤ 2147483647
-  half-most = go (decLe w 2147483647)
-    where
-      go : Dec (w ≤ 2147483647) → w ≤ 2147483647
-      go (yes h) = h
-      go (no f) =
-          let high : 2147483648 ≤ w = lt-of-not-le f in
-          absurd (omega (arith, half-is .low, mul-le-mul high high))
+  half-most =
+      let quarter : y / 4 < 2147483648 * 2147483648 = omega arith in
+      let below : w < 2147483648 = square-lt w 2147483648 (half-is .low) quarter in
+      omega arith
 
   pub nearest-up : (2 * w + 1) * (2 * w + 1) ≤ y → w + 1 ≡ nearestRoot y
   nearest-up reached =
