@@ -1,5 +1,6 @@
 -- Rounded division: to the nearest whole unit, halves upward.
-use Prim.Native.Nat.{ℕ, _+_, _*_, _/_, _≤_, _<_}
+use Prim.Native.Nat.{ℕ, _+_, _*_, _/_, _%_, _≤_, _<_}
+use Rattle.arith.specs.declared.Division.{Division}
 
 -- n / d to the nearest whole number, halves upward
 unfoldable pub roundDiv : ℕ → ℕ → ℕ
@@ -9,3 +10,7 @@ roundDiv n d = (2 * n + d) / (2 * d)
 pub record IsRounded (n d r : ℕ) : Type 0 where
   pub low : 2 * (r * d) ≤ 2 * n + d
   pub high : 2 * n < 2 * (r * d) + d
+
+-- n / d: the whole quotient, the remainder, and the quotient rounded
+unfoldable pub division : ℕ → ℕ → Division
+division n d = record { quotient = n / d; remainder = n % d; rounded = roundDiv n d }

@@ -3,7 +3,7 @@
 
 ghost use mathlib.Core.Path.{_≡_};
 ghost use Prim.Native.Nat.{_-_, _<_, min, max};
-ghost use Rattle.arith.specs.Rounding.{roundDiv};
+ghost use Rattle.arith.specs.Rounding.{roundDiv, division};
 ghost use Rattle.arith.specs.Root.{nearestRoot, wholeRoot, firstBound};
 
 // What is left of a after b is taken, 0 where b is more.
@@ -27,14 +27,39 @@ pub fn larger(a: u64, b: u64) -> u64
     if a <= b { b } else { a }
 }
 
-// n / d to the nearest whole number, halves upward. The quotient and the remainder decide, so nothing overflows.
+// A division: the whole quotient, the remainder, and the nearest whole number, halves upward.
+pub struct Division {
+    pub quotient: u64,
+    pub remainder: u64,
+    pub rounded: u64,
+}
+
+// n / d, all three. The quotient and the remainder decide which way it is rounded, so nothing overflows.
+pub fn divide(n: u64, d: u64) -> Division
+    requires { ⌜ 0 < d ⌝ }
+    ensures { λ r. ⌜ r ≡ division n d ⌝ }
+{
+    let quotient = n / d;
+    let remainder = n % d;
+    let rounded = if d - remainder <= remainder {
+        quotient + 1
+    } else {
+        quotient
+    };
+    Division {
+        quotient,
+        remainder,
+        rounded,
+    }
+}
+
+// n / d to the nearest whole number, halves upward.
 pub fn round_div(n: u64, d: u64) -> u64
     requires { ⌜ 0 < d ⌝ }
     ensures { λ r. ⌜ r ≡ roundDiv n d ⌝ }
 {
-    let q = n / d;
-    let r = n % d;
-    if d - r <= r { q + 1 } else { q }
+    let divided = divide(n, d);
+    divided.rounded
 }
 
 // The whole number nearest half the square root of y: of a whole number x, the root is nearest_root(4 x).

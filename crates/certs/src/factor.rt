@@ -2,9 +2,9 @@
 
 use crate::Chosen;
 use crate::Lookup;
-use crate::comparison;
-use crate::comparison::Comparison;
-use crate::comparison::Way;
+use comparing::Comparison;
+use comparing::Way;
+use comparing::apart;
 use values::Diameters;
 use values::Value;
 ghost use mathlib.Core.Path.{_≡_};
@@ -18,7 +18,7 @@ pub fn factor_moved(before: u16, after: u16) -> Comparison
     ensures { λ r. ⌜ r ≡ factorMoved before after ⌝ }
 {
     Comparison {
-        left: PARTS * comparison::apart(before as u64, after as u64),
+        left: PARTS * apart(before as u64, after as u64),
         way: Way::Above,
         right: before as u64,
     }

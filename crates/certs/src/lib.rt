@@ -1,7 +1,6 @@
 // Choosing certificates: by kind, maker and serial, the latest dated on or before the run's day, or the earliest dated later.
 // Everything above reaches a job's certificates only through `chosen`. Relies on the records, their comparison and their place in the file.
 
-pub mod comparison;
 pub mod factor;
 
 use heads::certificate;

@@ -1,16 +1,21 @@
--- Rule 9 in the words of docs/RULES.md.
-use Prim.Native.Nat.{ℕ, _+_, _*_, _/_, _%_}
+-- Rules 9, 15 and 16 in the words of docs/RULES.md.
+use Prim.Native.Nat.{ℕ, _+_, _*_, _/_, _%_, _<_}
 use mathlib.Core.Path.{_≡_, refl, ap}
 use mathlib.Core.Bool.{Bool, true, false, cond, not}
 use native.Mathlib.Omega.{arith}
 use borrow.Author.Tests.{eq-eqb, ne-eqb, eqb-true, eqb-false}
 use lib.Dec.{eqb}
+use Rattle.arith.specs.Rounding.{division}
 use Rattle.readings.specs.Ranges.{roundShape}
 use Rattle.grids.specs.Grids.{gridPoints, nextGrid}
 use Rattle.grids.proofs.Grids.{grid-exactly}
-use Rattle.certs.specs.declared.comparison.Way.the-variants.{Differs}
-use Rattle.certs.specs.Comparing.{holds, compare}
-use Rattle.conditions.specs.Conditions.{nextAllowed}
+use Rattle.values.specs.declared.Ratio.the-variants.{Exact}
+use Rattle.comparing.specs.declared.Way.{Way}
+use Rattle.comparing.specs.declared.Way.the-variants.{Differs}
+use Rattle.comparing.specs.Comparing.{standsTo, holds, compare}
+use Rattle.comparing.proofs.Exactly.{exactly}
+use Rattle.conditions.specs.Grounds.{broken}
+use Rattle.conditions.specs.Conditions.{nextAllowed, ratioAgainst}
 
 -- the allowed numbers of points: multiples of 4 round, the grids rectangular
 abbrev pub allowed : ℕ → ℕ → Bool
@@ -31,3 +36,8 @@ allowed-exactly shape n = ap not (go (eqb shape roundShape))
     go : (t : Bool) → eqb n (cond t ((n + 3) / 4 * 4) (nextGrid n)) ≡ cond t (eqb (n % 4) 0) (gridPoints n)
     go true = multiple-exactly n
     go false = grid-exactly n
+
+-- Rules 15 and 16: a line that is n / d rounded stands to its limit as n stands to so many times d
+pub ratio-exactly : (way : Way) (n d limit : ℕ) → 0 < d → broken (ratioAgainst (Exact (division n d)) way limit) ≡ standsTo way n (limit * d)
+unfolding division broken ratioAgainst
+ratio-exactly way n d limit some = exactly way n d limit some

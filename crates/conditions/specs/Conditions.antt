@@ -7,17 +7,19 @@ use lib.IntN.{ℤ, pos}
 use Rattle.readings.specs.Ranges.{roundShape}
 use Rattle.grids.specs.Grids.{nextGrid}
 use Rattle.records.specs.declared.Site.{Site}
+use Rattle.values.specs.declared.Ratio.{Ratio}
+use Rattle.values.specs.declared.Ratio.the-variants.{Exact, Unworked}
 use Rattle.values.specs.declared.Value.{Value}
 use Rattle.values.specs.declared.Value.the-variants.{Known, Missing}
 use Rattle.metering.specs.Metering.{allowance}
 use Rattle.certs.specs.declared.Lookup.{Lookup}
 use Rattle.certs.specs.declared.Lookup.the-variants.{Found, Nothing}
-use Rattle.certs.specs.declared.comparison.Way.{Way}
-use Rattle.certs.specs.declared.comparison.Way.the-variants.{Below, Above, Differs}
-use Rattle.certs.specs.Comparing.{compare, apart}
+use Rattle.comparing.specs.declared.Way.{Way}
+use Rattle.comparing.specs.declared.Way.the-variants.{Below, Above, Differs}
+use Rattle.comparing.specs.Comparing.{compare, compareExactly, apart}
 use Rattle.certs.specs.Factor.{factorMoved}
 use Rattle.conditions.specs.declared.grounds.Ground.{Ground}
-use Rattle.conditions.specs.declared.grounds.Ground.the-variants.{Silent, NoCertificate, Compared, Either, SignedBelow}
+use Rattle.conditions.specs.declared.grounds.Ground.the-variants.{Silent, NoCertificate, Compared, Either, Exactly, SignedBelow}
 use Rattle.conditions.specs.declared.site.Length.{Length}
 use Rattle.conditions.specs.declared.Part.{Part}
 use Rattle.conditions.specs.declared.Part.the-variants.{Whole, OnePoint, OneSegment, OneWeighing}
@@ -160,10 +162,15 @@ leaking t v Whole = Silent
 leaking t v (OnePoint p) = Silent
 leaking t v (OneWeighing w) = Silent
 
--- 12, 14, 15, 16: a line against its limit, where it is present
+-- 12, 14: a line against its limit, where it is present
 unfoldable pub lineAgainst : Value → Way → ℕ → Ground
 lineAgainst Missing way limit = Silent
 lineAgainst (Known n) way limit = Compared (compare n way limit)
+
+-- 15, 16: a line before it is rounded against its limit, where it is present
+unfoldable pub ratioAgainst : Ratio → Way → ℕ → Ground
+ratioAgainst Unworked way limit = Silent
+ratioAgainst (Exact n) way limit = Exactly (compareExactly (n .quotient) (n .remainder) way limit)
 
 -- the least percent isokinetic, 0.01 percent
 abbrev pub leastIsokinetic : ℕ

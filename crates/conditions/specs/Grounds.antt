@@ -1,9 +1,9 @@
 -- What a rule goes by, and when that breaks it.
 use mathlib.Core.Bool.{Bool, true, false, _||_}
 use lib.Signed.{ltZ}
-use Rattle.certs.specs.Comparing.{holds}
+use Rattle.comparing.specs.Comparing.{holds, holdsExactly}
 use Rattle.conditions.specs.declared.grounds.Ground.{Ground}
-use Rattle.conditions.specs.declared.grounds.Ground.the-variants.{Silent, NoCertificate, Compared, Either, SignedBelow}
+use Rattle.conditions.specs.declared.grounds.Ground.the-variants.{Silent, NoCertificate, Compared, Either, Exactly, SignedBelow}
 
 -- a comparison breaks a rule exactly when it holds; of two, either is enough
 unfoldable pub broken : Ground → Bool
@@ -11,4 +11,5 @@ broken Silent = false
 broken NoCertificate = true
 broken (Compared c) = holds c
 broken (Either a b) = holds a || holds b
+broken (Exactly c) = holdsExactly c
 broken (SignedBelow left right) = ltZ left right

@@ -4,9 +4,9 @@ use crate::grounds::Ground;
 use arith::larger;
 use arith::smaller;
 use certs::Lookup;
-use certs::comparison::Comparison;
-use certs::comparison::Way;
 use certs::factor;
+use comparing::Comparison;
+use comparing::Way;
 ghost use mathlib.Core.Path.{_≡_};
 ghost use Rattle.conditions.specs.Conditions.{missing, moved, spread, uneven};
 

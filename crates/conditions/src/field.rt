@@ -2,8 +2,8 @@
 
 use crate::Part;
 use crate::grounds::Ground;
-use certs::comparison::Comparison;
-use certs::comparison::Way;
+use comparing::Comparison;
+use comparing::Way;
 use metering::allowance;
 ghost use mathlib.Core.Path.{_≡_};
 ghost use Prim.Native.Nat.{_≤_};

@@ -1,6 +1,7 @@
 // What a rule goes by at one place, and whether that breaks it. A rule that compares numbers is its comparison.
 
-use certs::comparison::Comparison;
+use comparing::Comparison;
+use comparing::ExactComparison;
 ghost use mathlib.Core.Path.{_≡_};
 ghost use Rattle.conditions.specs.Grounds.{broken};
 
@@ -13,6 +14,8 @@ pub enum Ground {
     Compared(Comparison),
     // Two conditions: either breaks the rule, and both break it once.
     Either(Comparison, Comparison),
+    // A quotient and its remainder, set against a limit and 0.
+    Exactly(ExactComparison),
     // A signed line that must not be below its limit.
     SignedBelow(i64, i64),
 }
@@ -31,6 +34,7 @@ impl Ground {
                 }
                 b.holds()
             }
+            Ground::Exactly(c) => c.holds(),
             Ground::SignedBelow(left, right) => left < right,
         }
     }

@@ -2,8 +2,8 @@
 // A rectangle's diameter is a fraction and is never divided out: both sides of a comparison are cross-multiplied.
 
 use crate::grounds::Ground;
-use certs::comparison::Comparison;
-use certs::comparison::Way;
+use comparing::Comparison;
+use comparing::Way;
 use grids::GridPoints;
 use readings::runs::Shape;
 use records::Site;

@@ -2,9 +2,9 @@
 
 use crate::Part;
 use crate::grounds::Ground;
-use certs::comparison;
-use certs::comparison::Comparison;
-use certs::comparison::Way;
+use comparing::Comparison;
+use comparing::Way;
+use comparing::apart;
 ghost use mathlib.Core.Path.{_≡_};
 ghost use Rattle.conditions.specs.Conditions.{unsteady, lacking, negative};
 
@@ -19,7 +19,7 @@ pub fn unsteady(part: Part) -> Ground
         return Ground::Silent;
     };
     Ground::Compared(Comparison {
-        left: comparison::apart(weighing.first as u64, weighing.second as u64),
+        left: apart(weighing.first as u64, weighing.second as u64),
         way: Way::Above,
         right: GREATEST_DIFFERENCE,
     })

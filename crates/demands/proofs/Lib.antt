@@ -13,6 +13,7 @@ pub mod Demand3
 pub mod SameOutcomes
 pub mod TwoJobs
 pub mod Thirteen
+pub mod Percent
 pub mod MostReached
 pub mod Fronts
 pub mod Beyond

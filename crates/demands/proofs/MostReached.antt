@@ -19,10 +19,10 @@ use Rattle.sampling.specs.Sampling.{drawnGas, isokinetic, deduction, finalWeigh
 use Rattle.lines.specs.Sheet.{lines}
 use Rattle.certs.specs.declared.Lookup.the-variants.{Nothing}
 use Rattle.certs.specs.declared.Chosen.{Chosen}
-use Rattle.certs.specs.Comparing.{holds, apart}
+use Rattle.comparing.specs.Comparing.{holds, apart}
 use Rattle.certs.specs.Factor.{factorOf, coefficientOf, diametersOf}
 use Rattle.conditions.specs.Grounds.{broken}
-use Rattle.conditions.specs.Conditions.{missing, moved, uneven, diameter, halfDiameter, undisturbed, minimumPoints, nextAllowed, short, leaking, lineAgainst, unsteady}
+use Rattle.conditions.specs.Conditions.{missing, moved, uneven, diameter, halfDiameter, undisturbed, minimumPoints, nextAllowed, short, leaking, lineAgainst, ratioAgainst, unsteady}
 use Rattle.rules.specs.Rules.{table, groundOf, placesOf}
 use Rattle.findings.specs.Listing.{partOf, ofKind, besideOf, brokenAt, ruleFindings, findingsTo, findings, linesFor, findingsFor, mostFindings}
 
@@ -102,7 +102,7 @@ full-in-range =
     }
 
 full-findings : length (findingsFor fullRun noCertificates) ≡ mostFindings
-unfolding fullRun point segment filter noCertificates findingsFor linesFor findings findingsTo ruleFindings brokenAt broken partOf besideOf table groundOf placesOf missing moved uneven diameter halfDiameter undisturbed minimumPoints nextOf nextGrid nextAllowed short leaking lineAgainst unsteady ofKind holds apart factorOf coefficientOf diametersOf lines metering stack sampling time meteredVolume allowance leakLoss leakLosses correctedVolume dryVolume moisture wetWeight densityRoot velocity drawnGas isokinetic finalWeights tares catch deduction roundDiv unlessZero sumTo
+unfolding fullRun point segment filter noCertificates findingsFor linesFor findings findingsTo ruleFindings brokenAt broken partOf besideOf table groundOf placesOf missing moved uneven diameter halfDiameter undisturbed minimumPoints nextOf nextGrid nextAllowed short leaking lineAgainst ratioAgainst unsteady ofKind holds apart factorOf coefficientOf diametersOf lines metering stack sampling time meteredVolume allowance leakLoss leakLosses correctedVolume dryVolume moisture wetWeight densityRoot velocity drawnGas isokinetic finalWeights tares catch deduction roundDiv unlessZero sumTo
 full-findings = refl
 
 -- Some run in range has 98

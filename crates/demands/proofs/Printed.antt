@@ -1,7 +1,7 @@
 -- The worked job is answered as docs/RULES.md prints it: by computation, from its bytes to the bytes of its lines and its finding.
 use mathlib.Core.Path.{refl}
 use Rattle.arith.specs.Root.{grown, floorRoot, nearestRoot}
-use Rattle.arith.specs.Rounding.{roundDiv}
+use Rattle.arith.specs.Rounding.{roundDiv, division}
 use Rattle.readings.specs.Ranges.{within, signedWithin}
 use Rattle.grids.specs.Grids.{nextOf, nextGrid}
 use Rattle.records.specs.Records.{sameIdentity, sumTo}
@@ -12,11 +12,11 @@ use Rattle.sampling.specs.Sampling.{nozzleArea, drawnGas, isokinetic, deduction
 use Rattle.lines.specs.Sheet.{lines, sheet}
 use Rattle.stack.specs.Stack.{dryWeight, wetWeight, stackPressure, stackTemperature, pointRoot, meanRoot, densityRoot, velocity, stack}
 use Rattle.certs.specs.Choosing.{eligible, keep, chosen, chosenFor}
-use Rattle.certs.specs.Comparing.{holds, apart}
+use Rattle.comparing.specs.Comparing.{holds, holdsExactly, apart}
 use Rattle.certs.specs.Factor.{factorMoved, factor, factorOf, coefficientOf, diametersOf}
 use Rattle.conditions.specs.Grounds.{broken}
 use Rattle.findings.specs.Listing.{partOf, ofKind, besideOf, brokenAt, findingAt, ruleFindings, findingsTo, findings, accepted, listed, linesFor, findingsFor}
-use Rattle.conditions.specs.Conditions.{missing, moved, uneven, diameter, halfDiameter, undisturbed, minimumPoints, nextAllowed, short, leaking, lineAgainst, unsteady}
+use Rattle.conditions.specs.Conditions.{missing, moved, uneven, diameter, halfDiameter, undisturbed, minimumPoints, nextAllowed, short, leaking, lineAgainst, ratioAgainst, unsteady}
 use Rattle.rules.specs.Rules.{table, groundOf, placesOf, placeAt, classOf}
 use Rattle.fields.specs.Numbers.{u16At, u32At, i16At}
 use Rattle.fields.specs.Trouble.{first, checks, recordTrouble, upTo}
@@ -36,5 +36,5 @@ use Rattle.lines.specs.Starred.{workedLines}
 use Rattle.demands.specs.Starred.{PrintedJob}
 
 pub printed : PrintedJob
-unfolding grown floorRoot nearestRoot roundDiv within signedWithin sameIdentity sumTo time meteredVolume allowance leakLoss leakLosses correctedVolume meanOrifice meterPressure meterTemperature dryVolume waterVapor moisture unlessZero addScaled nozzleArea drawnGas isokinetic deduction finalWeights tares catch concentration metering stack sampling lines sheet dryWeight wetWeight stackPressure stackTemperature pointRoot meanRoot densityRoot velocity eligible keep chosen chosenFor holds apart factorMoved factor factorOf coefficientOf diametersOf broken brokenAt findingAt ruleFindings findingsTo findings accepted listed linesFor findingsFor missing moved uneven diameter halfDiameter undisturbed minimumPoints nextOf nextGrid nextAllowed short leaking lineAgainst unsteady table groundOf partOf ofKind besideOf placesOf placeAt classOf u16At u32At i16At first checks upTo padded filledTo recordTrouble runAt runStart readJob anyTo partsTrouble runTrouble numberBefore jobTrouble worked reduction chosenIn reducedRun runNamed packed le spliced joined entryBytes sheetBytes findingBytes findingsBytes handed outcome success answerOf linesAfter findingsAfter countAnswer numberAnswer workedLines
+unfolding grown floorRoot nearestRoot roundDiv division within signedWithin sameIdentity sumTo time meteredVolume allowance leakLoss leakLosses correctedVolume meanOrifice meterPressure meterTemperature dryVolume waterVapor moisture unlessZero addScaled nozzleArea drawnGas isokinetic deduction finalWeights tares catch concentration metering stack sampling lines sheet dryWeight wetWeight stackPressure stackTemperature pointRoot meanRoot densityRoot velocity eligible keep chosen chosenFor holds holdsExactly apart factorMoved factor factorOf coefficientOf diametersOf broken brokenAt findingAt ruleFindings findingsTo findings accepted listed linesFor findingsFor missing moved uneven diameter halfDiameter undisturbed minimumPoints nextOf nextGrid nextAllowed short leaking lineAgainst ratioAgainst unsteady table groundOf partOf ofKind besideOf placesOf placeAt classOf u16At u32At i16At first checks upTo padded filledTo recordTrouble runAt runStart readJob anyTo partsTrouble runTrouble numberBefore jobTrouble worked reduction chosenIn reducedRun runNamed packed le spliced joined entryBytes sheetBytes findingBytes findingsBytes handed outcome success answerOf linesAfter findingsAfter countAnswer numberAnswer workedLines
 printed = record { answer = refl; lines = refl; findings = refl }

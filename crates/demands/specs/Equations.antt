@@ -5,7 +5,9 @@ use lib.IntN.{ℤ}
 use lib.ListN.{getD}
 use Rattle.records.specs.declared.Run.{Run}
 use Rattle.records.specs.declared.Point.{Point}
+use Rattle.values.specs.declared.Ratio.{Ratio}
 use Rattle.values.specs.declared.Value.{Value}
+use Rattle.values.specs.Promise.{roundedRatio}
 use Rattle.metering.specs.Metering.{time, meteredVolume, correctedVolume, meanOrifice, meterPressure, meterTemperature, dryVolume, waterVapor, moisture}
 use Rattle.stack.specs.Stack.{dryWeight, wetWeight, stackPressure, stackTemperature, meanRoot, densityRoot, velocity}
 use Rattle.sampling.specs.Sampling.{nozzleArea, drawnGas, isokinetic, catch, concentration}
@@ -37,7 +39,7 @@ equations r ch =
     let l15 : Value = velocity (coefficientOf ch) l13 l14 in
     let l16 : Value = nozzleArea (diametersOf ch) in
     let l17 : Value = drawnGas l6 l7 l11 l12 in
-    let l18 : Value = isokinetic l17 l15 l16 l1 in
+    let l18 : Ratio = isokinetic l17 l15 l16 l1 in
     let l19 : ℤ = catch (r .weighings) (r .header .counts .weighings) (r .header .acetone) in
     let l20 : Value = concentration l19 l6 in
     always l1
@@ -57,7 +59,7 @@ equations r ch =
     ∷ ifKnown l15
     ∷ ifKnown l16
     ∷ ifKnown l17
-    ∷ ifKnown l18
+    ∷ ifKnown (roundedRatio l18)
     ∷ record { line = Present l19 }
     ∷ ifKnown l20
     ∷ []

@@ -2,6 +2,7 @@
 pub mod ReadingOrder
 pub mod Table
 pub mod Equations
+pub mod Percent
 pub mod Demands
 pub mod Front
 pub mod Starred

@@ -3,6 +3,7 @@ use Prim.Native.Nat.{ℕ}
 use mathlib.Core.Path.{_≡_, refl}
 use borrow.Author.Tests.{eq-eqb}
 use Rattle.records.specs.declared.Run.{Run}
+use Rattle.values.specs.declared.Ratio.the-variants.{Unworked}
 use Rattle.values.specs.declared.Value.{Value}
 use Rattle.values.specs.declared.Value.the-variants.{Known, Missing}
 use Rattle.lines.specs.declared.Lines.{Lines}
@@ -28,13 +29,13 @@ velocity-missing Missing dry mean pressure temperature = refl
 velocity-missing (Known cp) dry mean pressure temperature = refl
 
 -- line 18 without line 15, and where that is 0
-isokinetic-missing : (drawn area : Value) (t : ℕ) → isokinetic drawn Missing area t ≡ Missing
+isokinetic-missing : (drawn area : Value) (t : ℕ) → isokinetic drawn Missing area t ≡ Unworked
 unfolding isokinetic
 isokinetic-missing Missing area t = refl
 isokinetic-missing (Known drawn) area t = refl
 
-isokinetic-still : (drawn area : Value) (t : ℕ) → isokinetic drawn (Known 0) area t ≡ Missing
-unfolding isokinetic unlessZero
+isokinetic-still : (drawn area : Value) (t : ℕ) → isokinetic drawn (Known 0) area t ≡ Unworked
+unfolding isokinetic
 isokinetic-still Missing area t = refl
 isokinetic-still (Known drawn) Missing t = refl
 isokinetic-still (Known drawn) (Known area) t = refl
@@ -48,10 +49,10 @@ module _ (r : Run) (ch : Chosen) (l : Lines) (is : l ≡ linesFor r ch) where
   unfolding linesFor lines metering stack moisture
   no-moisture e = rw (is, rw is at e) (velocity-missing (coefficientOf ch) _ _ _ _)
 
-  pub no-velocity : l .stack .velocity ≡ Missing → l .sampling .isokinetic ≡ Missing
+  pub no-velocity : l .stack .velocity ≡ Missing → l .sampling .isokinetic ≡ Unworked
   unfolding linesFor lines sampling
   no-velocity e = rw (is, rw is at e) (isokinetic-missing _ _ _)
 
-  pub no-flow : l .stack .velocity ≡ Known 0 → l .sampling .isokinetic ≡ Missing
+  pub no-flow : l .stack .velocity ≡ Known 0 → l .sampling .isokinetic ≡ Unworked
   unfolding linesFor lines sampling
   no-flow e = rw (is, rw is at e) (isokinetic-still _ _ _)

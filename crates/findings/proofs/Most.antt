@@ -3,11 +3,11 @@ use Prim.Native.Nat.{ℕ, zero, suc, _+_, _≤_, _<_}
 use mathlib.Core.Path.{_≡_, refl, _∙_, ap}
 use mathlib.Core.Bool.{Bool, true, false, cond}
 use mathlib.Core.List.{List, [], _∷_}
-use native.Mathlib.Nat.{le-refl}
+use native.Mathlib.Nat.{le-refl, lt-of-not-le}
 use native.Mathlib.Decide.{decLe}
 use native.Mathlib.Omega.{arith}
-use borrow.Author.Tests.{eq-eqb, eqb-true, le-ltb, ltb-true}
-use lib.Dec.{eqb, ltb}
+use borrow.Author.Tests.{eq-eqb, ne-eqb, eqb-true, le-ltb}
+use lib.Dec.{eqb}
 use lib.ListN.{length, getD, length-append}
 use Rattle.readings.specs.Ranges.{greatestPointCount, greatestSegmentCount, greatestWeighingCount, filterKind, rinseKind}
 use Rattle.readings.proofs.Ranges.{within-least, within-greatest}
@@ -15,17 +15,19 @@ use Rattle.records.specs.declared.Weighing.{Weighing}
 use Rattle.records.specs.declared.Run.{Run}
 use Rattle.records.specs.Records.{noWeighing, sumTo}
 use Rattle.records.specs.InRange.{RunOk}
+use Rattle.values.specs.declared.Ratio.{Ratio}
+use Rattle.values.specs.declared.Ratio.the-variants.{Exact, Unworked}
 use Rattle.values.specs.declared.Value.{Value}
 use Rattle.values.specs.declared.Value.the-variants.{Known, Missing}
 use Rattle.lines.specs.declared.Lines.{Lines}
 use Rattle.certs.specs.declared.Lookup.{Lookup}
 use Rattle.certs.specs.declared.Lookup.the-variants.{Found, Nothing}
 use Rattle.certs.specs.declared.Chosen.{Chosen}
-use Rattle.certs.specs.declared.comparison.Way.the-variants.{Below, Above, Same}
-use Rattle.certs.specs.Comparing.{holds}
+use Rattle.comparing.specs.declared.Way.the-variants.{Below, Above, Same}
+use Rattle.comparing.specs.Comparing.{holds, holdsExactly, compareExactly}
 use Rattle.rules.specs.declared.Beside.{Beside}
 use Rattle.conditions.specs.Grounds.{broken}
-use Rattle.conditions.specs.Conditions.{missing, moved, uneven, lineAgainst, leastIsokinetic, greatestIsokinetic, lacking}
+use Rattle.conditions.specs.Conditions.{missing, moved, uneven, lineAgainst, ratioAgainst, leastIsokinetic, greatestIsokinetic, lacking}
 use Rattle.rules.specs.Rules.{lastRule, table, groundOf, placesOf}
 use Rattle.findings.specs.Listing.{partOf, oneOfKind, ofKind, besideOf, brokenAt, findingAt, ruleFindings, findingsTo, findings, linesFor, findingsFor, mostFindings, Worked}
 use Rattle.findings.proofs.Filling.{rising}
@@ -105,20 +107,32 @@ unfolding broken lineAgainst
 zero-missing v rest e none = rw e (omega arith)
 
 -- the percent isokinetic is not below 9,000 and above 11,000
-percent-once : (v : Value) → bit (broken (lineAgainst v Below leastIsokinetic)) + bit (broken (lineAgainst v Above greatestIsokinetic)) ≤ 1
-unfolding broken lineAgainst holds
-percent-once Missing = omega arith
-percent-once (Known n) = go (ltb n leastIsokinetic) refl
+percent-once : (v : Ratio) → bit (broken (ratioAgainst v Below leastIsokinetic)) + bit (broken (ratioAgainst v Above greatestIsokinetic)) ≤ 1
+unfolding broken ratioAgainst holdsExactly
+percent-once Unworked = omega arith
+percent-once (Exact n) = go (decLe (n .quotient) leastIsokinetic)
   where
-    go : (t : Bool) → ltb n leastIsokinetic ≡ t → bit t + bit (ltb greatestIsokinetic n) ≤ 1
-    go true e =
-        let low : n < leastIsokinetic = ltb-true _ _ e in
-        let not-high : n ≤ greatestIsokinetic = omega arith in
-        rw (le-ltb greatestIsokinetic n not-high) (omega arith)
-    go false e = omega (arith, bit-le (ltb greatestIsokinetic n))
+    q : ℕ
+    q = n .quotient
 
-percent-missing : (v : Value) → v ≡ Missing → bit (broken (lineAgainst v Below leastIsokinetic)) + bit (broken (lineAgainst v Above greatestIsokinetic)) ≡ 0
-unfolding broken lineAgainst
+    fifteen : Bool
+    fifteen = holdsExactly (compareExactly q (n .remainder) Below leastIsokinetic)
+
+    sixteen : Bool
+    sixteen = holdsExactly (compareExactly q (n .remainder) Above greatestIsokinetic)
+
+    not-sixteen : q ≤ leastIsokinetic → sixteen ≡ false
+    not-sixteen low = rw (ne-eqb q greatestIsokinetic (omega arith)) (le-ltb greatestIsokinetic q (omega arith))
+
+    not-fifteen : leastIsokinetic < q → fifteen ≡ false
+    not-fifteen high = rw (ne-eqb q leastIsokinetic (omega arith)) (le-ltb q leastIsokinetic (omega arith))
+
+    go : Dec (q ≤ leastIsokinetic) → bit fifteen + bit sixteen ≤ 1
+    go (yes low) = rw (not-sixteen low) (omega (arith, bit-le fifteen))
+    go (no high) = rw (not-fifteen (lt-of-not-le high)) (omega (arith, bit-le sixteen))
+
+percent-missing : (v : Ratio) → v ≡ Unworked → bit (broken (ratioAgainst v Below leastIsokinetic)) + bit (broken (ratioAgainst v Above greatestIsokinetic)) ≡ 0
+unfolding broken ratioAgainst
 percent-missing v e = rw e (omega arith)
 
 -- 18 and 19: a weighing is of a filter or of a rinse
@@ -172,7 +186,7 @@ module _ (r : Run) (ch : Chosen) (l : Lines) (w : Worked r ch l) where
       let no-volume-drawn : l .metering .corrected ≡ 0 = cc in
       after-velocity (no-moisture r ch l (w .lines) (no-volume r ch l (w .lines) no-volume-drawn)))
     where
-      after-velocity : l .stack .velocity ≡ Missing → bit (broken (lineAgainst (l .stack .velocity) Same 0)) + (bit (broken (lineAgainst (l .sampling .isokinetic) Below leastIsokinetic)) + bit (broken (lineAgainst (l .sampling .isokinetic) Above greatestIsokinetic))) ≡ 0
+      after-velocity : l .stack .velocity ≡ Missing → bit (broken (lineAgainst (l .stack .velocity) Same 0)) + (bit (broken (ratioAgainst (l .sampling .isokinetic) Below leastIsokinetic)) + bit (broken (ratioAgainst (l .sampling .isokinetic) Above greatestIsokinetic))) ≡ 0
       after-velocity e = zero-missing _ _ e (percent-missing _ (no-velocity r ch l (w .lines) e))
 
   -- how many findings rule number `rule` has

@@ -1,6 +1,6 @@
 -- The starred values of the lines hold, by computation.
 use mathlib.Core.Path.{_≡_, refl}
-use Rattle.arith.specs.Rounding.{roundDiv}
+use Rattle.arith.specs.Rounding.{roundDiv, division}
 use Rattle.arith.specs.Root.{nearestRoot, floorRoot, grown}
 use Rattle.records.specs.Records.{sumTo}
 use Rattle.values.specs.Promise.{unlessZero}
@@ -20,5 +20,5 @@ unfolding roundDiv sumTo allowance leakLoss leakLosses correctedVolume leak
 leak-holds = refl
 
 pub worked-lines-hold : workedLines .worked ≡ workedLines .expected
-unfolding roundDiv nearestRoot floorRoot grown sumTo unlessZero addScaled time meteredVolume allowance leakLoss leakLosses correctedVolume meanOrifice meterPressure meterTemperature dryVolume waterVapor moisture dryWeight wetWeight stackPressure stackTemperature pointRoot meanRoot densityRoot velocity nozzleArea drawnGas isokinetic deduction finalWeights tares catch concentration metering stack sampling lines sheet workedLines
+unfolding roundDiv division nearestRoot floorRoot grown sumTo unlessZero addScaled time meteredVolume allowance leakLoss leakLosses correctedVolume meanOrifice meterPressure meterTemperature dryVolume waterVapor moisture dryWeight wetWeight stackPressure stackTemperature pointRoot meanRoot densityRoot velocity nozzleArea drawnGas isokinetic deduction finalWeights tares catch concentration metering stack sampling lines sheet workedLines
 worked-lines-hold = refl

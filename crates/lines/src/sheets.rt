@@ -99,7 +99,7 @@ pub fn sheet(lines: Lines) -> Sheet
             if_known(velocity),
             if_known(area),
             if_known(drawn),
-            if_known(isokinetic),
+            if_known(isokinetic.rounded()),
             Entry {
                 line: Line::Present(p.catch),
             },

@@ -1,13 +1,16 @@
 -- The starred values, each by computation, and how lists of them are put together.
+use Prim.Native.Nat.{ℕ}
 use mathlib.Core.Path.{_≡_, refl}
 use mathlib.Core.List.{List, [], _∷_, _++_, map}
-use lib.Dec.{ltb}
-use Rattle.certs.specs.Comparing.{holds, apart}
+use native.Mathlib.Omega.{arith}
+use borrow.Author.Tests.{le-ltb}
+use Rattle.comparing.specs.declared.Way.the-variants.{Below, Above}
+use Rattle.comparing.specs.Comparing.{holds, holdsExactly, compareExactly, apart}
 use Rattle.certs.specs.Factor.{factorMoved, factor, factorOf}
 use Rattle.conditions.specs.Grounds.{broken}
-use Rattle.conditions.specs.Conditions.{moved, lineAgainst, leastIsokinetic, greatestIsokinetic}
+use Rattle.conditions.specs.Conditions.{moved, ratioAgainst, leastIsokinetic, greatestIsokinetic}
 use Rattle.rules.specs.Rules.{table, groundOf}
-use Rattle.rules.specs.Starred.{Each, StarredFactor, starredFactors, FactorStands, StarredIsokinetic, starredIsokinetic, IsokineticStands}
+use Rattle.rules.specs.Starred.{Each, StarredFactor, starredFactors, FactorStands, Such, StarredIsokinetic, starredIsokinetic, IsokineticStands}
 
 -- a starred factor stands where the two factors alone give the note and Y
 factor-stands : (s : StarredFactor) → holds (factorMoved (s .before) (s .after)) ≡ s .note → factor (s .before) (s .after) ≡ s .y → FactorStands s
@@ -21,17 +24,43 @@ pub starred-factors : Each FactorStands starredFactors
 unfolding starredFactors holds factorMoved apart factor
 starred-factors = (factor-stands _ refl refl, (factor-stands _ refl refl, (factor-stands _ refl refl, tt)))
 
--- a starred line 18 stands where the line alone gives the faults
-isokinetic-stands : (s : StarredIsokinetic) → ltb (s .line) leastIsokinetic ≡ s .fifteen → ltb greatestIsokinetic (s .line) ≡ s .sixteen → IsokineticStands s
-unfolding broken lineAgainst table groundOf holds
-isokinetic-stands s fifteen sixteen part b known = (rw known fifteen, rw known sixteen)
+-- the quotient and every such remainder alone give the faults
+abbrev Faults : StarredIsokinetic → Type 0
+Faults s =
+    (r : ℕ)
+    → Such (s .remainder) r
+    → (holdsExactly (compareExactly (s .quotient) r Below leastIsokinetic) ≡ s .fifteen) × (holdsExactly (compareExactly (s .quotient) r Above greatestIsokinetic) ≡ s .sixteen)
+
+faults : Each Faults starredIsokinetic
+unfolding starredIsokinetic holdsExactly
+faults = (
+  λ r none. (refl, refl),
+  (
+    λ r some. (refl, refl),
+    (
+      λ r none. (rw none, refl),
+      (
+        λ r some. (le-ltb r 0 (omega arith), refl),
+        (λ r none. (refl, rw none), (λ r one. (refl, rw one), (λ r none. (refl, refl), tt))),
+      ),
+    ),
+  ),
+)
+
+-- so whatever a rule looks at
+isokinetic-stands : (s : StarredIsokinetic) → Faults s → IsokineticStands s
+unfolding broken ratioAgainst table groundOf
+isokinetic-stands s alone part b n exact quotient such = (
+  rw (exact, quotient) (alone (n .remainder) such .0),
+  rw (exact, quotient) (alone (n .remainder) such .1),
+)
 
 pub starred-isokinetic : Each IsokineticStands starredIsokinetic
-unfolding starredIsokinetic
-starred-isokinetic = (
-  isokinetic-stands _ refl refl,
-  (isokinetic-stands _ refl refl, (isokinetic-stands _ refl refl, (isokinetic-stands _ refl refl, tt))),
-)
+starred-isokinetic = each isokinetic-stands starredIsokinetic faults
+  where
+    each : {A : Type 0} {P Q : A → Type 0} → ((x : A) → P x → Q x) → (xs : List A) → Each P xs → Each Q xs
+    each f [] none = tt
+    each f (x ∷ xs) (first, rest) = (f x first, each f xs rest)
 
 -- what holds of whatever f makes of each, and of each of the rest, holds of each of both together
 pub each-mapped : {A B : Type 0} (P : B → Type 0) (f : A → B) (xs : List A) (ys : List B) → Each (λ x. P (f x)) xs → Each P ys → Each P (map f xs ++ ys)

@@ -7,11 +7,11 @@ use Rattle.readings.specs.Ranges.{greatestAboveFirst, greatestTotalSeconds}
 use Rattle.grids.specs.Grids.{oneOf}
 use Rattle.records.specs.declared.Counts.{Counts}
 use Rattle.values.specs.declared.Value.the-variants.{Known}
-use Rattle.certs.specs.declared.comparison.Way.the-variants.{Below, Above, Same}
+use Rattle.comparing.specs.declared.Way.the-variants.{Below, Above, Same}
 use Rattle.conditions.specs.declared.grounds.Ground.{Ground}
 use Rattle.conditions.specs.declared.grounds.Ground.the-variants.{Silent}
 use Rattle.conditions.specs.declared.Part.{Part}
-use Rattle.conditions.specs.Conditions.{missing, moved, uneven, narrow, disturbed, wrongPoints, short, leaking, lineAgainst, leastIsokinetic, greatestIsokinetic, unsteady, lacking, negative}
+use Rattle.conditions.specs.Conditions.{missing, moved, uneven, narrow, disturbed, wrongPoints, short, leaking, lineAgainst, ratioAgainst, leastIsokinetic, greatestIsokinetic, unsteady, lacking, negative}
 use Rattle.rules.specs.declared.Beside.{Beside}
 
 -- a rule: its number, and what it goes by
@@ -39,8 +39,8 @@ table part b =
     ∷ (11 goesBy leaking (b .lines .metering .time) (b .lines .metering .volume) part)
     ∷ (12 goesBy lineAgainst (Known (b .lines .metering .corrected)) Same 0)
     ∷ (14 goesBy lineAgainst (b .lines .stack .velocity) Same 0)
-    ∷ (15 goesBy lineAgainst (b .lines .sampling .isokinetic) Below leastIsokinetic)
-    ∷ (16 goesBy lineAgainst (b .lines .sampling .isokinetic) Above greatestIsokinetic)
+    ∷ (15 goesBy ratioAgainst (b .lines .sampling .isokinetic) Below leastIsokinetic)
+    ∷ (16 goesBy ratioAgainst (b .lines .sampling .isokinetic) Above greatestIsokinetic)
     ∷ (17 goesBy unsteady part)
     ∷ (18 goesBy lacking (b .filters))
     ∷ (19 goesBy lacking (b .rinses))

@@ -3,7 +3,9 @@ use Prim.Native.Nat.{ℕ}
 use mathlib.Core.Path.{_≡_}
 use mathlib.Core.Bool.{Bool, true, false}
 use mathlib.Core.List.{List, [], _∷_}
+use Rattle.arith.specs.declared.Division.{Division}
 use Rattle.records.specs.declared.Certificate.{Certificate}
+use Rattle.values.specs.declared.Ratio.the-variants.{Exact}
 use Rattle.values.specs.declared.Value.the-variants.{Known}
 use Rattle.certs.specs.declared.Lookup.the-variants.{Found}
 use Rattle.certs.specs.Factor.{factorOf}
@@ -41,23 +43,39 @@ FactorStands s =
     → after .first ≡ s .after
     → (broken (groundOf part b 5) ≡ s .note) × (factorOf (b .chosen) ≡ Known (s .y))
 
--- line 18; whether there is a fault 15, and a fault 16
+-- a remainder: that one, or any
+pub data Remainder : Type 0 where
+  only : ℕ → Remainder
+  any : Remainder
+
+-- r is such a remainder
+abbrev pub Such : Remainder → ℕ → Type 0
+Such (only n) r = r ≡ n
+Such any r = Unit {0}
+
+-- the quotient of line 18 before it is rounded, and its remainder; whether there is a fault 15, and a fault 16
 pub record StarredIsokinetic : Type 0 where
-  pub line : ℕ
+  pub quotient : ℕ
+  pub remainder : Remainder
   pub fifteen : Bool
   pub sixteen : Bool
 
 unfoldable pub starredIsokinetic : List StarredIsokinetic
 starredIsokinetic =
-    record { line = 8999; fifteen = true; sixteen = false }
-    ∷ record { line = 9000; fifteen = false; sixteen = false }
-    ∷ record { line = 11000; fifteen = false; sixteen = false }
-    ∷ record { line = 11001; fifteen = false; sixteen = true }
+    record { quotient = 8999; remainder = only 0; fifteen = true; sixteen = false }
+    ∷ record { quotient = 8999; remainder = any; fifteen = true; sixteen = false }
+    ∷ record { quotient = 9000; remainder = only 0; fifteen = false; sixteen = false }
+    ∷ record { quotient = 9000; remainder = any; fifteen = false; sixteen = false }
+    ∷ record { quotient = 11000; remainder = only 0; fifteen = false; sixteen = false }
+    ∷ record { quotient = 11000; remainder = only 1; fifteen = false; sixteen = true }
+    ∷ record { quotient = 11001; remainder = only 0; fifteen = false; sixteen = true }
     ∷ []
 
--- whatever a rule looks at, that line 18 gives those faults
+-- whatever a rule looks at, and whatever line 18 is rounded to, that quotient and remainder give those faults
 abbrev pub IsokineticStands : StarredIsokinetic → Type 0
 IsokineticStands s =
-    (part : Part) (b : Beside)
-    → b .lines .sampling .isokinetic ≡ Known (s .line)
+    (part : Part) (b : Beside) (n : Division)
+    → b .lines .sampling .isokinetic ≡ Exact n
+    → n .quotient ≡ s .quotient
+    → Such (s .remainder) (n .remainder)
     → (broken (groundOf part b 15) ≡ s .fifteen) × (broken (groundOf part b 16) ≡ s .sixteen)

@@ -2,7 +2,7 @@
 // places it speaks, and its class. Relies on the conditions.
 
 use certs::Chosen;
-use certs::comparison::Way;
+use comparing::Way;
 use conditions::Part;
 use conditions::certificates::missing;
 use conditions::certificates::moved;
@@ -12,6 +12,7 @@ use conditions::field::short;
 use conditions::grounds::Ground;
 use conditions::sheet::Isokinetic;
 use conditions::sheet::line_against;
+use conditions::sheet::ratio_against;
 use conditions::site::disturbed;
 use conditions::site::narrow;
 use conditions::site::wrong_points;
@@ -75,8 +76,8 @@ pub fn ground_of(part: Part, beside: Beside, rule: u8) -> Ground
         11 => leaking(metering.time, metering.volume, part),
         12 => line_against(Value::Known(metering.corrected), Way::Same, 0),
         14 => line_against(velocity, Way::Same, 0),
-        15 => line_against(isokinetic, Way::Below, Isokinetic::LEAST),
-        16 => line_against(isokinetic, Way::Above, Isokinetic::GREATEST),
+        15 => ratio_against(isokinetic, Way::Below, Isokinetic::LEAST),
+        16 => ratio_against(isokinetic, Way::Above, Isokinetic::GREATEST),
         17 => unsteady(part),
         18 => lacking(beside.filters),
         19 => lacking(beside.rinses),

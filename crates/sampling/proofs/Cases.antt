@@ -1,13 +1,14 @@
 -- Lines 16, 17, 18 and 20 case by case.
 use Prim.Native.Nat.{ℕ, _+_, _*_, _^_}
 use mathlib.Core.Path.{_≡_, refl}
+use borrow.Author.Tests.{eq-eqb, ne-eqb}
 use lib.IntN.{ℤ, pos, negsuc}
-use Rattle.arith.specs.Rounding.{roundDiv}
+use Rattle.arith.specs.Rounding.{roundDiv, division}
 use Rattle.values.specs.declared.Diameters.{Diameters}
 use Rattle.values.specs.declared.Diameters.the-variants.{Measured, Unknown}
+use Rattle.values.specs.declared.Ratio.the-variants.{Exact, Unworked}
 use Rattle.values.specs.declared.Value.{Value}
 use Rattle.values.specs.declared.Value.the-variants.{Known, Missing}
-use Rattle.values.proofs.Promise.{unless-zero, unless-some}
 use Rattle.sampling.specs.Sampling.{nozzleArea, drawnGas, isokinetic, concentration}
 
 -- Line 16
@@ -29,25 +30,25 @@ unfolding drawnGas
 drawn-known v p t e = rw e
 
 -- Line 18
-pub isokinetic-no-gas : {drawn : Value} (velocity area : Value) (t : ℕ) → drawn ≡ Missing → isokinetic drawn velocity area t ≡ Missing
+pub isokinetic-no-gas : {drawn : Value} (velocity area : Value) (t : ℕ) → drawn ≡ Missing → isokinetic drawn velocity area t ≡ Unworked
 unfolding isokinetic
 isokinetic-no-gas velocity area t e = rw e
 
-pub isokinetic-no-velocity : {drawn velocity : Value} {g : ℕ} (area : Value) (t : ℕ) → drawn ≡ Known g → velocity ≡ Missing → isokinetic drawn velocity area t ≡ Missing
+pub isokinetic-no-velocity : {drawn velocity : Value} {g : ℕ} (area : Value) (t : ℕ) → drawn ≡ Known g → velocity ≡ Missing → isokinetic drawn velocity area t ≡ Unworked
 unfolding isokinetic
 isokinetic-no-velocity area t e f = rw (e, f)
 
-pub isokinetic-no-area : {drawn velocity area : Value} {g s : ℕ} (t : ℕ) → drawn ≡ Known g → velocity ≡ Known s → area ≡ Missing → isokinetic drawn velocity area t ≡ Missing
+pub isokinetic-no-area : {drawn velocity area : Value} {g s : ℕ} (t : ℕ) → drawn ≡ Known g → velocity ≡ Known s → area ≡ Missing → isokinetic drawn velocity area t ≡ Unworked
 unfolding isokinetic
 isokinetic-no-area t e f h = rw (e, f, h)
 
-pub isokinetic-still : {drawn velocity area : Value} {g s a : ℕ} (t : ℕ) → drawn ≡ Known g → velocity ≡ Known s → area ≡ Known a → s ≡ 0 → isokinetic drawn velocity area t ≡ Missing
+pub isokinetic-still : {drawn velocity area : Value} {g s a : ℕ} (t : ℕ) → drawn ≡ Known g → velocity ≡ Known s → area ≡ Known a → s ≡ 0 → isokinetic drawn velocity area t ≡ Unworked
 unfolding isokinetic
-isokinetic-still t e f h z = rw (e, f, h) (unless-zero _ z)
+isokinetic-still {s = s} t e f h z = rw (e, f, h, eq-eqb s 0 z)
 
-pub isokinetic-known : {drawn velocity area : Value} {g s a : ℕ} (t : ℕ) → drawn ≡ Known g → velocity ≡ Known s → area ≡ Known a → (s ≡ 0 → ⊥) → isokinetic drawn velocity area t ≡ Known (roundDiv (6 * 10 ^ 11 * g) (s * a * t))
+pub isokinetic-known : {drawn velocity area : Value} {g s a : ℕ} (t : ℕ) → drawn ≡ Known g → velocity ≡ Known s → area ≡ Known a → (s ≡ 0 → ⊥) → isokinetic drawn velocity area t ≡ Exact (division (6 * 10 ^ 11 * g) (s * a * t))
 unfolding isokinetic
-isokinetic-known {s = s} t e f h some = rw (e, f, h) (unless-some s _ some)
+isokinetic-known {s = s} t e f h some = rw (e, f, h, ne-eqb s 0 some)
 
 -- Line 20
 pub concentration-no-volume : {dry : Value} (z : ℤ) → dry ≡ Missing → concentration z dry ≡ Missing

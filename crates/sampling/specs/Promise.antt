@@ -8,7 +8,7 @@ use Rattle.readings.specs.Ranges.{greatestWeighingCount}
 use Rattle.records.specs.declared.Weighing.{Weighing}
 use Rattle.records.specs.Records.{noWeighing}
 use Rattle.records.specs.InRange.{WeighingOk}
-use Rattle.values.specs.Promise.{Is, Between}
+use Rattle.values.specs.Promise.{Is, Between, roundedRatio}
 use Rattle.sampling.specs.declared.Sampling.{Sampling}
 use Rattle.sampling.specs.declared.WeighingSums.{WeighingSums}
 use Rattle.sampling.specs.Sampling.{finalWeights, tares}
@@ -37,6 +37,6 @@ pub record IsCatch (z r : ℤ) : Type 0 where
 pub record SamplingOk (p : Sampling) : Type 0 where
   pub area : Between 5454 545417 (p .area)
   pub drawn : Between 0 19675261 (p .drawn)
-  pub isokinetic : Between 0 2164495159515952 (p .isokinetic)
+  pub isokinetic : Between 0 2164495159515952 (roundedRatio (p .isokinetic))
   pub catch : CatchOk (p .catch)
   pub concentration : Between 0 4937600000000 (p .concentration)

@@ -1,18 +1,21 @@
 -- Lines 16 to 20 of docs/RULES.md: the nozzle, the percent isokinetic, the catch and the concentration.
 use Prim.Native.Nat.{ℕ, _+_, _*_, _/_, _^_, min}
+use mathlib.Core.Bool.{cond}
 use mathlib.Core.List.{List}
+use lib.Dec.{eqb}
 use lib.IntN.{ℤ, pos, negsuc, subℕ}
 use lib.ListN.{getD}
-use Rattle.arith.specs.Rounding.{roundDiv}
+use Rattle.arith.specs.Rounding.{roundDiv, division}
 use Rattle.records.specs.declared.Acetone.{Acetone}
 use Rattle.records.specs.declared.Run.{Run}
 use Rattle.records.specs.declared.Weighing.{Weighing}
 use Rattle.records.specs.Records.{noWeighing, sumTo}
 use Rattle.values.specs.declared.Diameters.{Diameters}
 use Rattle.values.specs.declared.Diameters.the-variants.{Measured, Unknown}
+use Rattle.values.specs.declared.Ratio.{Ratio}
+use Rattle.values.specs.declared.Ratio.the-variants.{Exact, Unworked}
 use Rattle.values.specs.declared.Value.{Value}
 use Rattle.values.specs.declared.Value.the-variants.{Known, Missing}
-use Rattle.values.specs.Promise.{unlessZero}
 use Rattle.metering.specs.declared.Metering.{Metering}
 use Rattle.stack.specs.declared.Stack.{Stack}
 use Rattle.sampling.specs.declared.Sampling.{Sampling}
@@ -28,13 +31,13 @@ drawnGas Missing vapor pressure temperature = Missing
 drawnGas (Known dry) vapor pressure temperature =
     Known (roundDiv (945 * temperature * (dry + vapor)) (10 * pressure))
 
--- Line 18. Percent isokinetic, 0.01 percent: absent where line 15 is 0
-unfoldable pub isokinetic : Value → Value → Value → ℕ → Value
-isokinetic Missing velocity area t = Missing
-isokinetic (Known drawn) Missing area t = Missing
-isokinetic (Known drawn) (Known velocity) Missing t = Missing
+-- Line 18. Percent isokinetic, 0.01 percent, and before it is rounded its quotient and remainder: absent where line 15 is 0
+unfoldable pub isokinetic : Value → Value → Value → ℕ → Ratio
+isokinetic Missing velocity area t = Unworked
+isokinetic (Known drawn) Missing area t = Unworked
+isokinetic (Known drawn) (Known velocity) Missing t = Unworked
 isokinetic (Known drawn) (Known velocity) (Known area) t =
-    unlessZero velocity (roundDiv (6 * 10 ^ 11 * drawn) (velocity * area * t))
+    cond (eqb velocity 0) Unworked (Exact (division (6 * 10 ^ 11 * drawn) (velocity * area * t)))
 
 -- the acetone's share: the smaller of the blank's, rounded, and what the density allows, rounded down
 unfoldable pub deduction : Acetone → ℕ

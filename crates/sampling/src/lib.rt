@@ -3,17 +3,19 @@
 
 pub mod group;
 
+use arith::divide;
 use arith::round_div;
 use arith::smaller;
 use readings::runs::WeighingCount;
 use records::Acetone;
 use records::Weighing;
 use values::Diameters;
+use values::Ratio;
 use values::Value;
 ghost use Prim.Native.Nat.{_≤_};
 ghost use Rattle.readings.specs.Ranges.{leastSeconds, greatestTotalSeconds};
 ghost use Rattle.records.specs.InRange.{AcetoneOk};
-ghost use Rattle.values.specs.Promise.{Is, IsValue, Between, DiametersOk};
+ghost use Rattle.values.specs.Promise.{Is, IsValue, IsRatio, Between, DiametersOk};
 ghost use Rattle.metering.specs.Promise.{leastDryVolume, greatestDryVolume};
 ghost use Rattle.stack.specs.Promise.{greatestVelocity};
 ghost use Rattle.sampling.specs.Sampling.{nozzleArea, drawnGas, isokinetic, deduction, catch, concentration};
@@ -23,7 +25,7 @@ ghost use Rattle.sampling.specs.Promise.{WeighingsOk, AreWeighingSums, C
 pub struct Sampling {
     pub area: Value,
     pub drawn: Value,
-    pub isokinetic: Value,
+    pub isokinetic: Ratio,
     pub catch: i64,
     pub concentration: Value,
 }
@@ -52,27 +54,27 @@ pub fn drawn_gas(dry: Value, vapor: u64, pressure: u64, temperature: u64) -> Val
     Value::Known(round_div(945 * temperature * (volume + vapor), 10 * pressure))
 }
 
-// Line 18, 0.01 percent.
-pub fn isokinetic(drawn: Value, velocity: Value, area: Value, time: u64) -> Value
+// Line 18, 0.01 percent, and what its one division comes to before it is rounded.
+pub fn isokinetic(drawn: Value, velocity: Value, area: Value, time: u64) -> Ratio
     requires { ⌜ Between 0 19675261 drawn ⌝ }
     requires { ⌜ Between 0 greatestVelocity velocity ⌝ }
     requires { ⌜ Between 5454 545417 area ⌝ }
     requires { ⌜ (leastSeconds ≤ time) × (time ≤ greatestTotalSeconds) ⌝ }
-    ensures { λ r. ⌜ IsValue 0 2164495159515952 (isokinetic drawn velocity area time) r ⌝ }
+    ensures { λ r. ⌜ IsRatio 0 2164495159515952 (isokinetic drawn velocity area time) r ⌝ }
 {
     let Value::Known(gas) = drawn else {
-        return Value::Missing;
+        return Ratio::Unworked;
     };
     let Value::Known(speed) = velocity else {
-        return Value::Missing;
+        return Ratio::Unworked;
     };
     let Value::Known(opening) = area else {
-        return Value::Missing;
+        return Ratio::Unworked;
     };
     if speed == 0 {
-        return Value::Missing;
+        return Ratio::Unworked;
     }
-    Value::Known(round_div(600000000000 * gas, speed * opening * time))
+    Ratio::Exact(divide(600000000000 * gas, speed * opening * time))
 }
 
 // The acetone's share of the rinse, 0.1 mg: never more than the density of the acetone allows.

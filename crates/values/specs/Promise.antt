@@ -6,6 +6,8 @@ use lib.Dec.{eqb}
 use Rattle.readings.specs.Ranges.{leastNozzleDiameter, greatestNozzleDiameter}
 use Rattle.values.specs.declared.Diameters.{Diameters}
 use Rattle.values.specs.declared.Diameters.the-variants.{Measured}
+use Rattle.values.specs.declared.Ratio.{Ratio}
+use Rattle.values.specs.declared.Ratio.the-variants.{Exact, Unworked}
 use Rattle.values.specs.declared.Value.{Value}
 use Rattle.values.specs.declared.Value.the-variants.{Known, Missing}
 
@@ -23,6 +25,16 @@ pub record Between (least greatest : ℕ) (v : Value) : Type 0 where
 pub record IsValue (least greatest : ℕ) (v r : Value) : Type 0 where
   pub is : r ≡ v
   pub range : Between least greatest r
+
+-- a ratio's line as it is written, rounded
+abbrev pub roundedRatio : Ratio → Value
+roundedRatio (Exact n) = Known (n .rounded)
+roundedRatio Unworked = Missing
+
+-- r is the ratio v that a definition gives, whose line is in its range
+pub record IsRatio (least greatest : ℕ) (v r : Ratio) : Type 0 where
+  pub is : r ≡ v
+  pub range : Between least greatest (roundedRatio r)
 
 -- missing where it is true, and otherwise v
 abbrev pub pickValue : Bool → ℕ → Value

@@ -49,11 +49,11 @@ line-against-requires c κs = search needs
 line-against-requires-2 : tie.Need-line-against-requires-2
 line-against-requires-2 c κs = search needs
 
-line-against-requires-3 : tie.Need-line-against-requires-3
-line-against-requires-3 c κs = search needs
+ratio-against-requires : tie.Need-ratio-against-requires
+ratio-against-requires c κs = search needs
 
-line-against-requires-4 : tie.Need-line-against-requires-4
-line-against-requires-4 c κs = search needs
+ratio-against-requires-2 : tie.Need-ratio-against-requires-2
+ratio-against-requires-2 c κs = search needs
 
 unsteady-requires : tie.Need-unsteady-requires
 unsteady-requires c κs = search needs
@@ -121,11 +121,11 @@ returns-13 c = rw (c .before .match .keys13) (c .line-against2 .ensures)
 
 returns-14 : tie.Need-returns-14
 unfolding groundOf table
-returns-14 c = rw (c .before .match .keys14) (c .line-against3 .ensures)
+returns-14 c = rw (c .before .match .keys14) (c .ratio-against .ensures)
 
 returns-15 : tie.Need-returns-15
 unfolding groundOf table
-returns-15 c = rw (c .before .match .keys15) (c .line-against4 .ensures)
+returns-15 c = rw (c .before .match .keys15) (c .ratio-against2 .ensures)
 
 returns-16 : tie.Need-returns-16
 unfolding groundOf table
@@ -169,8 +169,8 @@ ground-of-spec =
     leaking-requires
     line-against-requires
     line-against-requires-2
-    line-against-requires-3
-    line-against-requires-4
+    ratio-against-requires
+    ratio-against-requires-2
     unsteady-requires
     lacking-requires
     lacking-requires-2

@@ -1,7 +1,9 @@
--- Line 18. Missing where a line that it needs is, and where line 15 is 0; else the rounded quotient.
+-- Line 18. Unworked where a line that it needs is missing, and where line 15 is 0; else the division.
 use borrow.Author.Needs.{needs}
+use mathlib.Core.Path.{ap}
 use native.Mathlib.Omega.{arith}
-use Rattle.values.proofs.Promise.{rounded, is-missing, is-known}
+use Rattle.arith.specs.Rounding.{division}
+use Rattle.values.proofs.Promise.{rounded, is-unworked, is-exact}
 use Rattle.stack.specs.Promise.{greatestVelocity}
 use Rattle.sampling.proofs.Cases.{isokinetic-no-gas, isokinetic-no-velocity, isokinetic-no-area, isokinetic-still, isokinetic-known}
 use Rattle.sampling.proofs.Products.{divisor-most, divisor-time-most, divisor-least}
@@ -32,7 +34,7 @@ enum-told : tie.Need-enum-told
 enum-told c = search needs
 
 returns : tie.Need-returns
-returns c = is-missing (isokinetic-no-gas _ _ _ (c .enum-told .given .1))
+returns c = is-unworked (isokinetic-no-gas _ _ _ (c .enum-told .given .1))
 
 enum-known-velocity : tie.Need-enum-known-velocity
 enum-known-velocity c = search needs
@@ -41,7 +43,7 @@ enum-told-2 : tie.Need-enum-told-2
 enum-told-2 c = search needs
 
 returns-2 : tie.Need-returns-2
-returns-2 c = is-missing (isokinetic-no-velocity _ _ (c .before .before .before .drawn .given .1) (c .enum-told2 .given .1))
+returns-2 c = is-unworked (isokinetic-no-velocity _ _ (c .before .before .before .drawn .given .1) (c .enum-told2 .given .1))
 
 enum-known-area : tie.Need-enum-known-area
 enum-known-area c = search needs
@@ -50,32 +52,34 @@ enum-told-3 : tie.Need-enum-told-3
 enum-told-3 c = search needs
 
 returns-3 : tie.Need-returns-3
-returns-3 c = is-missing (isokinetic-no-area _ (c .before .before .before .before .before .before .drawn .given .1) (c .before .before .before .velocity .given .1) (c .enum-told3 .given .1))
+returns-3 c = is-unworked (isokinetic-no-area _ (c .before .before .before .before .before .before .drawn .given .1) (c .before .before .before .velocity .given .1) (c .enum-told3 .given .1))
 
 returns-4 : tie.Need-returns-4
 returns-4 c =
     let speed = c .before .before .before .before .before in
-    is-missing (isokinetic-still _ (speed .before .before .before .drawn .given .1) (speed .velocity .given .1) (c .before .before .area .given .1) (c .if1 .taken))
+    is-unworked (isokinetic-still _ (speed .before .before .before .drawn .given .1) (speed .velocity .given .1) (c .before .before .area .given .1) (c .if1 .taken))
 
-mul-round-div : tie.Need-mul-round-div
-mul-round-div c = omega (arith, gas-most c)
+mul-divide : tie.Need-mul-divide
+mul-divide c = omega (arith, gas-most c)
 
-mul-round-div-2 : tie.Need-mul-round-div-2
-mul-round-div-2 c = omega (arith, divisor-most (speed-most c) (opening c .1))
+mul-divide-2 : tie.Need-mul-divide-2
+mul-divide-2 c = omega (arith, divisor-most (speed-most c) (opening c .1))
 
-mul-round-div-3 : tie.Need-mul-round-div-3
-mul-round-div-3 c = omega (arith, divisor-time-most (speed-most c) (opening c .1) (start c .pre .1 .1 .1 .1))
+mul-divide-3 : tie.Need-mul-divide-3
+mul-divide-3 c = omega (arith, divisor-time-most (speed-most c) (opening c .1) (start c .pre .1 .1 .1 .1))
 
-round-div-requires : tie.Need-round-div-requires
-round-div-requires c κs = omega (arith, least c)
+divide-requires : tie.Need-divide-requires
+divide-requires c κs = omega (arith, least c)
 
 returns-5 : tie.Need-returns-5
+unfolding division
 returns-5 c =
     let at = c .before in
     let speed = at .before .before .before .before .before in
     let enough = mul-le-mul-left 2164495159515952 (least at) in
-    is-known
-    (rounded 0 2164495159515952 (omega (arith, least at)) (c .round-div .ensures) (omega arith) (omega (arith, gas-most at, enough)))
+    let divided = c .divide .ensures in
+    is-exact divided
+    (rounded 0 2164495159515952 (omega (arith, least at)) (ap (λ x. x .rounded) divided) (omega arith) (omega (arith, gas-most at, enough)))
     (isokinetic-known _ (speed .before .before .before .drawn .given .1) (speed .velocity .given .1) (at .before .before .area .given .1) (at .if1 .left))
 
 pub isokinetic-spec : {M : Type 1} → statement M
@@ -92,8 +96,8 @@ isokinetic-spec =
     enum-told-3
     returns-3
     returns-4
-    mul-round-div
-    mul-round-div-2
-    mul-round-div-3
-    round-div-requires
+    mul-divide
+    mul-divide-2
+    mul-divide-3
+    divide-requires
     returns-5)

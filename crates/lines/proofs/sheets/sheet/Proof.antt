@@ -2,11 +2,12 @@
 use borrow.Author.Needs.{needs}
 use native.Mathlib.Omega.{arith}
 use mathlib.Core.List.{[], _∷_}
+use mathlib.Core.Path.{_∙_, ap}
 use mir.Facts.{toZ-ofZ}
 use Rattle.values.specs.Signed.{addScaled}
 use Rattle.sampling.proofs.Difference.{catch-fits}
 use Rattle.lines.specs.declared.Line.the-variants.{Present}
-use Rattle.lines.specs.Sheet.{sheet}
+use Rattle.lines.specs.Sheet.{ifKnown, sheet}
 use Rattle.lines.proofs.Written.{between-small}
 use Rattle.lines.proofs.sheets.sheet.Statement.{statement}
 use Rattle.lines.proofs.sheets.sheet.Tie as tie
@@ -63,18 +64,21 @@ if-known-requires-6 c κs = between-small tt (c .before .before .before .before 
 if-known-requires-7 : tie.Need-if-known-requires-7
 if-known-requires-7 c κs = between-small tt (c .before .before .before .before .before .before .before .before .before .before .before .before .before .before .before .before .before .before .before .pre .sampling .drawn)
 
+rounded-requires : tie.Need-rounded-requires
+rounded-requires c κs = search needs
+
 if-known-requires-8 : tie.Need-if-known-requires-8
-if-known-requires-8 c κs = between-small tt (c .before .before .before .before .before .before .before .before .before .before .before .before .before .before .before .before .before .before .before .before .pre .sampling .isokinetic)
+if-known-requires-8 c κs = rw (c .rounded .ensures) (between-small tt (c .before .before .before .before .before .before .before .before .before .before .before .before .before .before .before .before .before .before .before .before .before .pre .sampling .isokinetic))
 
 if-known-requires-9 : tie.Need-if-known-requires-9
-if-known-requires-9 c κs = between-small tt (c .before .before .before .before .before .before .before .before .before .before .before .before .before .before .before .before .before .before .before .before .before .before .pre .sampling .concentration)
+if-known-requires-9 c κs = between-small tt (c .before .before .before .before .before .before .before .before .before .before .before .before .before .before .before .before .before .before .before .before .before .before .before .pre .sampling .concentration)
 
 returns : tie.Need-returns
 unfolding sheet
 returns c =
     let at19 = c .before in
     let at18 = at19 .before in
-    let at17 = at18 .before in
+    let at17 = at18 .before .before in
     let at16 = at17 .before in
     let at15 = at16 .before in
     let at14 = at15 .before in
@@ -111,7 +115,7 @@ returns c =
           ∷ at15 .if-known5 .ensures i
           ∷ at16 .if-known6 .ensures i
           ∷ at17 .if-known7 .ensures i
-          ∷ at18 .if-known8 .ensures i
+          ∷ (at18 .if-known8 .ensures ∙ ap ifKnown (at18 .before .rounded .ensures)) i
           ∷ record { line = Present (toZ-ofZ (catch-fits _ (at1 .before .before .before .before .pre .sampling .catch)) i) }
           ∷ c .if-known9 .ensures i
           ∷ [];
@@ -138,6 +142,7 @@ sheet-spec =
     if-known-requires-5
     if-known-requires-6
     if-known-requires-7
+    rounded-requires
     if-known-requires-8
     if-known-requires-9
     returns)

@@ -35,6 +35,12 @@ holds-requires-3 c κs = search needs
 enum-known-self-3 : tie.Need-enum-known-self-3
 enum-known-self-3 c = search needs
 
+holds-requires-4 : tie.Need-holds-requires-4
+holds-requires-4 c κs = search needs
+
+enum-known-self-4 : tie.Need-enum-known-self-4
+enum-known-self-4 c = search needs
+
 returns-2 : tie.Need-returns-2
 unfolding broken
 returns-2 c = rw (c .enum-told .given .1)
@@ -54,10 +60,14 @@ returns-5 c =
 
 returns-6 : tie.Need-returns-6
 unfolding broken
-returns-6 c =
-    let left : SFits w64 (c .before .self3 .given .0 .0) = record { sfits = c .known-told3 .given .0 .1 } in
-    let right : SFits w64 (c .before .self3 .given .0 .1 .0) = record { sfits = c .known-told3 .given .1 .0 .1 } in
-    rw (c .before .self3 .given .1, toZ-ofZ left, toZ-ofZ right)
+returns-6 c = rw (c .before .before .self3 .given .1) (c .holds4 .ensures)
+
+returns-7 : tie.Need-returns-7
+unfolding broken
+returns-7 c =
+    let left : SFits w64 (c .before .self4 .given .0 .0) = record { sfits = c .known-told4 .given .0 .1 } in
+    let right : SFits w64 (c .before .self4 .given .0 .1 .0) = record { sfits = c .known-told4 .given .1 .0 .1 } in
+    rw (c .before .self4 .given .1, toZ-ofZ left, toZ-ofZ right)
 
 pub broken-spec : {M : Type 1} → statement M
 broken-spec =
@@ -72,8 +82,11 @@ broken-spec =
     returns
     holds-requires-3
     enum-known-self-3
+    holds-requires-4
+    enum-known-self-4
     returns-2
     returns-3
     returns-4
     returns-5
-    returns-6)
+    returns-6
+    returns-7)

@@ -1,9 +1,9 @@
 -- `apart` subtracts the lower number from the higher one, and the other difference of the definition is 0.
 use native.Mathlib.Omega.{arith}
 use borrow.Author.Needs.{needs}
-use Rattle.certs.specs.Comparing.{apart}
-use Rattle.certs.proofs.comparison.apart.Statement.{statement}
-use Rattle.certs.proofs.comparison.apart.Tie as tie
+use Rattle.comparing.specs.Comparing.{apart}
+use Rattle.comparing.proofs.apart.Statement.{statement}
+use Rattle.comparing.proofs.apart.Tie as tie
 
 sub-result : tie.Need-sub-result
 sub-result c = search needs

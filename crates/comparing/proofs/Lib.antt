@@ -1,0 +1,2 @@
+-- The law of exact comparisons, which the layers above cite.
+pub mod Exactly

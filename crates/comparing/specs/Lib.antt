@@ -1,0 +1,2 @@
+-- Comparisons of whole numbers.
+pub mod Comparing
