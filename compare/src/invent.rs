@@ -9,7 +9,7 @@ mod runs;
 use std::collections::BTreeSet;
 
 use independent::job::{Job, Run};
-use independent::work;
+use independent::{work, Isokinetic};
 
 use crate::random::Random;
 
@@ -66,21 +66,25 @@ fn numbers(random: &mut Random, count: usize) -> Vec<u16> {
     numbers.into_iter().collect()
 }
 
-/// Meters one run so that line 18, where present, comes to a limit's side.
+/// Meters one run so that its percent isokinetic, where it has one, comes next to
+/// a limit: the first reading past it, or the one before that.
 fn tune_isokinetic(random: &mut Random, job: &mut Job) {
-    let target = random.pick(&[8_999, 9_000, 11_000, 11_001]);
+    let past: fn(Isokinetic) -> bool = match random.percent(50) {
+        true => |exact| !exact.is_below(9_000),
+        false => |exact| exact.is_above(11_000),
+    };
     let tuned = random.below(job.runs.len());
     let Job { certificates, runs } = job;
     let run = &mut runs[tuned];
     let first = run.first_reading;
-    let (mut below, mut reached) = (0, MOST_METERED as u32);
-    while below + 1 < reached {
-        let middle = (below + reached) / 2;
+    let (mut short, mut reached) = (0, MOST_METERED as u32);
+    while short + 1 < reached {
+        let middle = (short + reached) / 2;
         run.last_reading = first + middle;
-        match work(run, certificates).lines.line(18) {
-            Some(value) if value >= target => reached = middle,
-            _ => below = middle,
+        match work(run, certificates).lines.isokinetic() {
+            Some(exact) if past(exact) => reached = middle,
+            _ => short = middle,
         }
     }
-    run.last_reading = first + reached;
+    run.last_reading = first + random.pick(&[short, reached]);
 }

@@ -56,10 +56,14 @@ fn alone(
 fn read_jobs(proved: &Proved) -> Result<Half, Failure> {
     let extent = proved.extent();
     let mut all = Tally::default();
-    let worked = [cases::worked::whole(), cases::worked::thinnest()]
-        .into_iter()
-        .chain(cases::worked::truncations())
-        .chain(cases::worked::changes(extent.every_value));
+    let worked = [
+        cases::worked::whole(),
+        cases::worked::thinnest(),
+        cases::worked::at_percent_limits(),
+    ]
+    .into_iter()
+    .chain(cases::worked::truncations())
+    .chain(cases::worked::changes(extent.every_value));
     all.add(&Section::new("worked job").library(proved, worked)?);
 
     let random = cases::random::cases(extent.random_jobs);

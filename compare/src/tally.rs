@@ -33,6 +33,15 @@ const SLOW_ROOT: i64 = 10_000;
 /// Line 18 on either side of its limits.
 const ISOKINETIC_EDGES: [i64; 4] = [8_999, 9_000, 11_000, 11_001];
 
+/// Line 18 printed at a limit, the rule that judges it before it is rounded, and
+/// whether that is broken.
+const ISOKINETIC_SIDES: [(i64, u8, bool); 4] = [
+    (9_000, 15, true),
+    (9_000, 15, false),
+    (11_000, 16, false),
+    (11_000, 16, true),
+];
+
 #[derive(Default)]
 pub struct Tally {
     pub jobs: u64,
@@ -49,6 +58,7 @@ pub struct Tally {
     /// Runs in a slow stack.
     slow_stacks: u64,
     isokinetic_edges: [u64; ISOKINETIC_EDGES.len()],
+    isokinetic_sides: [u64; ISOKINETIC_SIDES.len()],
     refusals: [u64; REFUSALS + 1],
 }
 
@@ -86,6 +96,10 @@ impl Tally {
         for (edge, count) in ISOKINETIC_EDGES.iter().zip(&mut self.isokinetic_edges) {
             *count += u64::from(lines[17] == Some(*edge));
         }
+        for (side, count) in ISOKINETIC_SIDES.iter().zip(&mut self.isokinetic_sides) {
+            let (line, rule, broken) = *side;
+            *count += u64::from(lines[17] == Some(line) && rules.contains(&rule) == broken);
+        }
     }
 
     fn count_findings(&mut self, outcome: &Outcome) -> Vec<u8> {
@@ -119,6 +133,7 @@ impl Tally {
         self.least_volumes += other.least_volumes;
         self.slow_stacks += other.slow_stacks;
         add_each(&mut self.isokinetic_edges, &other.isokinetic_edges);
+        add_each(&mut self.isokinetic_sides, &other.isokinetic_sides);
         add_each(&mut self.refusals, &other.refusals);
     }
 
@@ -147,6 +162,9 @@ impl Tally {
         for (edge, &count) in ISOKINETIC_EDGES.iter().zip(&self.isokinetic_edges) {
             need(count, format!("line 18 at {edge}"));
         }
+        for (&side, &count) in ISOKINETIC_SIDES.iter().zip(&self.isokinetic_sides) {
+            need(count, side_text(side));
+        }
         unreached
     }
 
@@ -174,6 +192,11 @@ fn add_each(mine: &mut [u64], others: &[u64]) {
     for (count, other) in mine.iter_mut().zip(others) {
         *count += other;
     }
+}
+
+fn side_text((line, rule, broken): (i64, u8, bool)) -> String {
+    let judged = if broken { "broken" } else { "kept" };
+    format!("line 18 at {line} and rule {rule} {judged}")
 }
 
 fn line(bytes: &[u8]) -> Option<i64> {
@@ -211,6 +234,9 @@ impl fmt::Display for Tally {
         for (edge, count) in ISOKINETIC_EDGES.iter().zip(&self.isokinetic_edges) {
             write!(f, " {edge}: {count} ")?;
         }
+        for (&side, count) in ISOKINETIC_SIDES.iter().zip(&self.isokinetic_sides) {
+            write!(f, "\n  {}: {count}", side_text(side))?;
+        }
         Ok(())
     }
 }
@@ -228,5 +254,17 @@ mod tests {
             ..Tally::default()
         };
         assert!(!tally.unreached_by_reading().contains(&"a text".into()));
+    }
+
+    #[test]
+    fn a_percent_that_only_prints_a_limit_is_told_from_one_that_keeps_it() {
+        let broken = "line 18 at 11000 and rule 16 broken".to_string();
+        let kept = "line 18 at 11000 and rule 16 kept".to_string();
+        let tally = Tally {
+            isokinetic_sides: [1, 1, 1, 0],
+            ..Tally::default()
+        };
+        let unreached = tally.unreached_by_reading();
+        assert!(unreached.contains(&broken) && !unreached.contains(&kept));
     }
 }

@@ -22,7 +22,7 @@ const WIDEST_NOZZLE_SPREAD: u16 = 4;
 /// The widest difference of two final weights, 0.1 mg.
 const WIDEST_WEIGHT_DIFFERENCE: u32 = 5;
 
-/// Percent isokinetic, 0.01 percent.
+/// Percent isokinetic, 0.01 percent: judged before it is rounded.
 const LEAST_ISOKINETIC: i64 = 9_000;
 const GREATEST_ISOKINETIC: i64 = 11_000;
 
@@ -139,14 +139,14 @@ fn sampling_findings(list: &mut List, run: &Run, lines: &Lines) {
 fn volume_findings(list: &mut List, lines: &Lines) {
     list.whole_run(12, lines.line(3) == Some(0));
     list.whole_run(14, lines.line(15) == Some(0));
-    let isokinetic = lines.line(18);
+    let isokinetic = lines.isokinetic();
     list.whole_run(
         15,
-        isokinetic.map_or(false, |value| value < LEAST_ISOKINETIC),
+        isokinetic.map_or(false, |exact| exact.is_below(LEAST_ISOKINETIC)),
     );
     list.whole_run(
         16,
-        isokinetic.map_or(false, |value| value > GREATEST_ISOKINETIC),
+        isokinetic.map_or(false, |exact| exact.is_above(GREATEST_ISOKINETIC)),
     );
 }
 

@@ -25,7 +25,7 @@ mod worked;
 pub use answer::{Reason, Refusal};
 pub use findings::Finding;
 pub use layout::{rect_distances, round_distances};
-pub use lines::{Lines, LINE_COUNT};
+pub use lines::{Isokinetic, Lines, LINE_COUNT};
 pub use print::sheet;
 pub use read::read;
 pub use worked::{work, Worked};

@@ -1,5 +1,5 @@
-//! Jobs worth showing: the worked job of docs/RULES.md, one of several runs, one that is
-//! refused, and the longest a file can hold.
+//! Jobs worth showing: the worked job of docs/RULES.md, one of several runs, one at the
+//! limits of the percent isokinetic, one that is refused, and the longest a file can hold.
 
 use crate::job::*;
 
@@ -244,6 +244,38 @@ fn last_recalibration_run() -> Run {
         sides: [119, 0],
         ..worked_run()
     }
+}
+
+/// Four runs at the limits of the percent isokinetic: a thousandth of a cubic
+/// foot short of 90 percent, 90 and 110 percent exactly, and a thousandth past 110.
+pub fn percent_limits() -> Job {
+    let mut job = worked();
+    job.certificates[3] = nozzle(NOZZLE, CALIBRATED, [218, 218, 218]);
+    job.runs = vec![
+        sampled(1, 432, 34_439),
+        sampled(2, 432, 34_440),
+        sampled(3, 428, 42_721),
+        sampled(4, 428, 42_722),
+    ];
+    job
+}
+
+/// The worked run at that head, tight, with that much metered in 5,000 seconds.
+fn sampled(number: u16, velocity_head: u16, metered: u32) -> Run {
+    let mut run = Run {
+        number,
+        ..worked_run()
+    };
+    run.last_reading = run.first_reading + metered;
+    for point in &mut run.points {
+        point.seconds = 625;
+        point.velocity_head = velocity_head;
+    }
+    run.segments[0] = Segment {
+        seconds: 5_000,
+        leak: 0,
+    };
+    run
 }
 
 /// Refused with 5: the third point's stack temperature is -40.1 F.

@@ -109,24 +109,45 @@ fn with_day_and_factor(mut certificate: Certificate, day: u16, factor: u16) -> C
     certificate
 }
 
-/// The worked job metered so that line 18 comes out at that value.
-fn isokinetic(value: i64) -> Worked {
-    (100_000..200_000)
-        .map(|last| run_with(|run| run.last_reading = last))
-        .find(|worked| worked.lines.line(18) == Some(value))
-        .expect("a reading gives that line 18")
+/// Line 18 as it is printed, and whether rules 15 and 16 are broken.
+fn judged(worked: &Worked) -> (Option<i64>, bool, bool) {
+    (worked.lines.line(18), found(worked, 15), found(worked, 16))
 }
 
 #[test]
 fn isokinetic_limits() {
-    let faults = |value| {
-        let worked = isokinetic(value);
-        (found(&worked, 15), found(&worked, 16))
-    };
-    assert_eq!(faults(8_999), (true, false));
-    assert_eq!(faults(9_000), (false, false));
-    assert_eq!(faults(11_000), (false, false));
-    assert_eq!(faults(11_001), (false, true));
+    let job = samples::percent_limits();
+    let runs = job.runs.iter();
+    let runs: Vec<_> = runs
+        .map(|run| judged(&work(run, &job.certificates)))
+        .collect();
+    assert_eq!(
+        runs,
+        [
+            (Some(9_000), true, false),
+            (Some(9_000), false, false),
+            (Some(11_000), false, false),
+            (Some(11_000), false, true),
+        ]
+    );
+}
+
+/// The worked job metered from far below 90 percent to far above 110: line 18 on
+/// both sides of each change of verdict.
+#[test]
+fn isokinetic_verdicts() {
+    let percents = (130_000..150_000).map(|last| judged(&run_with(|run| run.last_reading = last)));
+    let percents: Vec<_> = percents.collect();
+    let changes: Vec<_> = percents
+        .windows(2)
+        .filter(|pair| (pair[0].1, pair[0].2) != (pair[1].1, pair[1].2))
+        .map(|pair| (pair[0].0, pair[1].0))
+        .collect();
+    // Before rounding 8,999.98 and 9,000.31, 10,999.90 and 11,000.12.
+    assert_eq!(
+        changes,
+        [(Some(9_000), Some(9_000)), (Some(11_000), Some(11_000)),]
+    );
 }
 
 #[test]

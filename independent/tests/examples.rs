@@ -28,6 +28,12 @@ fn examples_are_current() {
         example!("several-runs.txt"),
     );
     check(
+        "percent-limits",
+        &samples::percent_limits(),
+        example!("percent-limits.job"),
+        example!("percent-limits.txt"),
+    );
+    check(
         "refused",
         &samples::refused(),
         example!("refused.job"),

@@ -1,5 +1,5 @@
-//! The worked job: itself, with the least gas, each of its truncations, and each
-//! change of one byte.
+//! The worked job: itself, with the least gas, at the limits of the percent
+//! isokinetic, each of its truncations, and each change of one byte.
 
 use independent::samples;
 
@@ -13,6 +13,11 @@ pub fn whole() -> Case {
 pub fn thinnest() -> Case {
     let name = "the worked job with the least gas".into();
     Case::of_job(name, samples::thinnest(), Expected::Read)
+}
+
+pub fn at_percent_limits() -> Case {
+    let name = "the worked job at the limits of the percent isokinetic".into();
+    Case::of_job(name, samples::percent_limits(), Expected::Read)
 }
 
 /// Every shorter file, the empty one included.

@@ -16,7 +16,7 @@ use Rattle.certs.specs.declared.Lookup.{Lookup}
 use Rattle.certs.specs.declared.Lookup.the-variants.{Found, Nothing}
 use Rattle.certs.specs.declared.Chosen.{Chosen}
 use Rattle.certs.specs.Choosing.{chosen, chosenFor, Nearest}
-use Rattle.comparing.specs.Comparing.{holds}
+use Rattle.grounds.specs.Comparing.{holds}
 use Rattle.certs.specs.Factor.{factorMoved, factor, factorFrom, factorOf, coefficientFrom, coefficientOf, diametersFrom, diametersOf}
 use Rattle.certs.specs.InRange.{CertificatesOk, ChosenOk}
 use Rattle.certs.proofs.Choosing.{chosen-found}

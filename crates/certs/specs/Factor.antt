@@ -8,9 +8,9 @@ use Rattle.values.specs.declared.Diameters.the-variants.{Measured, Unknown}
 use Rattle.certs.specs.declared.Lookup.{Lookup}
 use Rattle.certs.specs.declared.Lookup.the-variants.{Found, Nothing}
 use Rattle.certs.specs.declared.Chosen.{Chosen}
-use Rattle.comparing.specs.declared.Way.the-variants.{Above}
-use Rattle.comparing.specs.declared.Comparison.{Comparison}
-use Rattle.comparing.specs.Comparing.{holds, compare, apart}
+use Rattle.grounds.specs.declared.comparison.Way.the-variants.{Above}
+use Rattle.grounds.specs.declared.comparison.Comparison.{Comparison}
+use Rattle.grounds.specs.Comparing.{holds, compare, apart}
 
 -- the after factor differs from the before factor by more than 5 percent of the before factor
 unfoldable pub factorMoved : ℕ → ℕ → Comparison

@@ -2,9 +2,9 @@
 
 use crate::Chosen;
 use crate::Lookup;
-use comparing::Comparison;
-use comparing::Way;
-use comparing::apart;
+use grounds::comparison::Comparison;
+use grounds::comparison::Way;
+use grounds::comparison::apart;
 use values::Diameters;
 use values::Value;
 ghost use mathlib.Core.Path.{_≡_};

@@ -6,7 +6,7 @@ use types.Run.{OneOf, miss}
 use denote.Enum.Declared.{tagOf}
 use Rattle.conditions.specs.declared.Part.{Part}
 use Rattle.conditions.specs.declared.Part.the-variants.{Whole, OnePoint, OneSegment, OneWeighing}
-use Rattle.conditions.specs.declared.grounds.Ground.the-variants.{Silent}
+use Rattle.grounds.specs.declared.Ground.the-variants.{Silent}
 use Rattle.conditions.specs.Conditions.{short, leaking, unsteady}
 use Rattle.conditions.proofs.Part.{the-type}
 

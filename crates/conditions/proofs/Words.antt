@@ -1,43 +1,15 @@
--- Rules 9, 15 and 16 in the words of docs/RULES.md.
-use Prim.Native.Nat.{ℕ, _+_, _*_, _/_, _%_, _<_}
-use mathlib.Core.Path.{_≡_, refl, ap}
-use mathlib.Core.Bool.{Bool, true, false, cond, not}
-use native.Mathlib.Omega.{arith}
-use borrow.Author.Tests.{eq-eqb, ne-eqb, eqb-true, eqb-false}
-use lib.Dec.{eqb}
+-- Rules 15 and 16 in the words of docs/RULES.md.
+use Prim.Native.Nat.{ℕ, _*_, _<_}
+use mathlib.Core.Path.{_≡_}
 use Rattle.arith.specs.Rounding.{division}
-use Rattle.readings.specs.Ranges.{roundShape}
-use Rattle.grids.specs.Grids.{gridPoints, nextGrid}
-use Rattle.grids.proofs.Grids.{grid-exactly}
+use Rattle.grounds.specs.declared.comparison.Way.{Way}
+use Rattle.grounds.specs.Comparing.{standsTo}
+use Rattle.grounds.specs.Grounds.{broken}
+use Rattle.grounds.proofs.Exactly.{exactly}
 use Rattle.values.specs.declared.Ratio.the-variants.{Exact}
-use Rattle.comparing.specs.declared.Way.{Way}
-use Rattle.comparing.specs.declared.Way.the-variants.{Differs}
-use Rattle.comparing.specs.Comparing.{standsTo, holds, compare}
-use Rattle.comparing.proofs.Exactly.{exactly}
-use Rattle.conditions.specs.Grounds.{broken}
-use Rattle.conditions.specs.Conditions.{nextAllowed, ratioAgainst}
+use Rattle.conditions.specs.Conditions.{ratioAgainst}
 
--- the allowed numbers of points: multiples of 4 round, the grids rectangular
-abbrev pub allowed : ℕ → ℕ → Bool
-allowed shape n = cond (eqb shape roundShape) (eqb (n % 4) 0) (gridPoints n)
-
-multiple-exactly : (n : ℕ) → eqb n ((n + 3) / 4 * 4) ≡ eqb (n % 4) 0
-multiple-exactly n = go (eqb (n % 4) 0) refl
-  where
-    go : (t : Bool) → eqb (n % 4) 0 ≡ t → eqb n ((n + 3) / 4 * 4) ≡ t
-    go true e = let even : n % 4 ≡ 0 = eqb-true _ _ e in eq-eqb n ((n + 3) / 4 * 4) (omega arith)
-    go false e = let odd : n % 4 ≡ 0 → ⊥ = eqb-false _ _ e in ne-eqb n ((n + 3) / 4 * 4) (omega arith)
-
--- Rule 9: a number of points differs from the next allowed one exactly when it is not allowed
-pub allowed-exactly : (shape n : ℕ) → holds (compare n Differs (nextAllowed shape n)) ≡ not (allowed shape n)
-unfolding holds nextAllowed
-allowed-exactly shape n = ap not (go (eqb shape roundShape))
-  where
-    go : (t : Bool) → eqb n (cond t ((n + 3) / 4 * 4) (nextGrid n)) ≡ cond t (eqb (n % 4) 0) (gridPoints n)
-    go true = multiple-exactly n
-    go false = grid-exactly n
-
--- Rules 15 and 16: a line that is n / d rounded stands to its limit as n stands to so many times d
+-- a line that is n / d rounded stands to its limit as n stands to so many times d
 pub ratio-exactly : (way : Way) (n d limit : ℕ) → 0 < d → broken (ratioAgainst (Exact (division n d)) way limit) ≡ standsTo way n (limit * d)
 unfolding division broken ratioAgainst
 ratio-exactly way n d limit some = exactly way n d limit some

@@ -1,3 +1,2 @@
--- What the rules go by, and what breaks them.
-pub mod Grounds
+-- What the rules go by.
 pub mod Conditions

@@ -1,12 +1,12 @@
 // Rules 1 to 6: the certificates.
 
-use crate::grounds::Ground;
 use arith::larger;
 use arith::smaller;
 use certs::Lookup;
 use certs::factor;
-use comparing::Comparison;
-use comparing::Way;
+use grounds::Ground;
+use grounds::comparison::Comparison;
+use grounds::comparison::Way;
 ghost use mathlib.Core.Path.{_≡_};
 ghost use Rattle.conditions.specs.Conditions.{missing, moved, spread, uneven};
 

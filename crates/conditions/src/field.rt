@@ -1,9 +1,9 @@
 // Rules 10 and 11: points and segments.
 
 use crate::Part;
-use crate::grounds::Ground;
-use comparing::Comparison;
-use comparing::Way;
+use grounds::Ground;
+use grounds::comparison::Comparison;
+use grounds::comparison::Way;
 use metering::allowance;
 ghost use mathlib.Core.Path.{_≡_};
 ghost use Prim.Native.Nat.{_≤_};

@@ -1,11 +1,9 @@
-// What each rule goes by, one by one. Relies on the chosen certificates and on what each line is promised to be.
+// What each rule goes by, one by one, but for those about the site. Relies on the chosen certificates and on what each line is promised to be.
 // No rule takes a run or an array.
 
 pub mod certificates;
 pub mod field;
-pub mod grounds;
 pub mod sheet;
-pub mod site;
 pub mod weighings;
 
 use records::Point;

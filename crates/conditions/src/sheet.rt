@@ -1,9 +1,9 @@
 // Rules 12, 14, 15 and 16: lines 3 and 15, and line 18 before it is rounded, each against its limit.
 
-use crate::grounds::Ground;
-use comparing::Comparison;
-use comparing::ExactComparison;
-use comparing::Way;
+use grounds::Ground;
+use grounds::comparison::Comparison;
+use grounds::comparison::ExactComparison;
+use grounds::comparison::Way;
 use values::Ratio;
 use values::Value;
 ghost use mathlib.Core.Path.{_≡_};

@@ -1,10 +1,10 @@
 // Rules 17 to 20: the weighings and what they catch.
 
 use crate::Part;
-use crate::grounds::Ground;
-use comparing::Comparison;
-use comparing::Way;
-use comparing::apart;
+use grounds::Ground;
+use grounds::comparison::Comparison;
+use grounds::comparison::Way;
+use grounds::comparison::apart;
 ghost use mathlib.Core.Path.{_≡_};
 ghost use Rattle.conditions.specs.Conditions.{unsteady, lacking, negative};
 

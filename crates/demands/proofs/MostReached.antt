@@ -19,10 +19,11 @@ use Rattle.sampling.specs.Sampling.{drawnGas, isokinetic, deduction, finalWeigh
 use Rattle.lines.specs.Sheet.{lines}
 use Rattle.certs.specs.declared.Lookup.the-variants.{Nothing}
 use Rattle.certs.specs.declared.Chosen.{Chosen}
-use Rattle.comparing.specs.Comparing.{holds, apart}
+use Rattle.grounds.specs.Comparing.{holds, apart}
 use Rattle.certs.specs.Factor.{factorOf, coefficientOf, diametersOf}
-use Rattle.conditions.specs.Grounds.{broken}
-use Rattle.conditions.specs.Conditions.{missing, moved, uneven, diameter, halfDiameter, undisturbed, minimumPoints, nextAllowed, short, leaking, lineAgainst, ratioAgainst, unsteady}
+use Rattle.grounds.specs.Grounds.{broken}
+use Rattle.site.specs.Site.{diameter, halfDiameter, undisturbed, minimumPoints, nextAllowed}
+use Rattle.conditions.specs.Conditions.{missing, moved, uneven, short, leaking, lineAgainst, ratioAgainst, unsteady}
 use Rattle.rules.specs.Rules.{table, groundOf, placesOf}
 use Rattle.findings.specs.Listing.{partOf, ofKind, besideOf, brokenAt, ruleFindings, findingsTo, findings, linesFor, findingsFor, mostFindings}
 

@@ -6,8 +6,8 @@ use mathlib.Core.Logic.{_⊎_, inl, inr, _↔_}
 use native.Mathlib.Omega.{arith}
 use borrow.Author.Tests.{lt-ltb, ltb-true}
 use Rattle.arith.specs.Rounding.{division}
-use Rattle.comparing.specs.declared.Way.the-variants.{Below, Above}
-use Rattle.comparing.specs.Comparing.{standsTo}
+use Rattle.grounds.specs.declared.comparison.Way.the-variants.{Below, Above}
+use Rattle.grounds.specs.Comparing.{standsTo}
 use Rattle.readings.specs.Ranges.{leastSeconds}
 use Rattle.records.specs.declared.Run.{Run}
 use Rattle.records.specs.InRange.{RunOk}
@@ -24,7 +24,7 @@ use Rattle.lines.specs.Sheet.{lines, always, ifKnown}
 use Rattle.certs.specs.declared.Chosen.{Chosen}
 use Rattle.certs.specs.InRange.{ChosenOk}
 use Rattle.certs.proofs.Values.{diameters-range}
-use Rattle.conditions.specs.Grounds.{broken}
+use Rattle.grounds.specs.Grounds.{broken}
 use Rattle.conditions.specs.Conditions.{ratioAgainst}
 use Rattle.conditions.proofs.Words.{ratio-exactly}
 use Rattle.rules.specs.Rules.{lastRule, table, groundOf, placesOf, placeAt}

@@ -12,11 +12,12 @@ use Rattle.sampling.specs.Sampling.{nozzleArea, drawnGas, isokinetic, deduction
 use Rattle.lines.specs.Sheet.{lines, sheet}
 use Rattle.stack.specs.Stack.{dryWeight, wetWeight, stackPressure, stackTemperature, pointRoot, meanRoot, densityRoot, velocity, stack}
 use Rattle.certs.specs.Choosing.{eligible, keep, chosen, chosenFor}
-use Rattle.comparing.specs.Comparing.{holds, holdsExactly, apart}
+use Rattle.grounds.specs.Comparing.{holds, holdsExactly, apart}
 use Rattle.certs.specs.Factor.{factorMoved, factor, factorOf, coefficientOf, diametersOf}
-use Rattle.conditions.specs.Grounds.{broken}
+use Rattle.grounds.specs.Grounds.{broken}
 use Rattle.findings.specs.Listing.{partOf, ofKind, besideOf, brokenAt, findingAt, ruleFindings, findingsTo, findings, accepted, listed, linesFor, findingsFor}
-use Rattle.conditions.specs.Conditions.{missing, moved, uneven, diameter, halfDiameter, undisturbed, minimumPoints, nextAllowed, short, leaking, lineAgainst, ratioAgainst, unsteady}
+use Rattle.site.specs.Site.{diameter, halfDiameter, undisturbed, minimumPoints, nextAllowed}
+use Rattle.conditions.specs.Conditions.{missing, moved, uneven, short, leaking, lineAgainst, ratioAgainst, unsteady}
 use Rattle.rules.specs.Rules.{table, groundOf, placesOf, placeAt, classOf}
 use Rattle.fields.specs.Numbers.{u16At, u32At, i16At}
 use Rattle.fields.specs.Trouble.{first, checks, recordTrouble, upTo}

@@ -12,7 +12,7 @@ use Rattle.certs.specs.declared.Chosen.{Chosen}
 use Rattle.certs.specs.Factor.{factorOf}
 use Rattle.certs.specs.InRange.{ChosenOk}
 use Rattle.certs.proofs.Values.{factor-range}
-use Rattle.conditions.specs.Grounds.{broken}
+use Rattle.grounds.specs.Grounds.{broken}
 use Rattle.rules.specs.Rules.{table, groundOf}
 use Rattle.findings.specs.Listing.{brokenAt, findings, linesFor, HasFinding}
 use Rattle.findings.proofs.Members.{listed-exactly}

@@ -23,10 +23,10 @@ use Rattle.lines.specs.declared.Lines.{Lines}
 use Rattle.certs.specs.declared.Lookup.{Lookup}
 use Rattle.certs.specs.declared.Lookup.the-variants.{Found, Nothing}
 use Rattle.certs.specs.declared.Chosen.{Chosen}
-use Rattle.comparing.specs.declared.Way.the-variants.{Below, Above, Same}
-use Rattle.comparing.specs.Comparing.{holds, holdsExactly, compareExactly}
+use Rattle.grounds.specs.declared.comparison.Way.the-variants.{Below, Above, Same}
+use Rattle.grounds.specs.Comparing.{holds, holdsExactly, compareExactly}
 use Rattle.rules.specs.declared.Beside.{Beside}
-use Rattle.conditions.specs.Grounds.{broken}
+use Rattle.grounds.specs.Grounds.{broken}
 use Rattle.conditions.specs.Conditions.{missing, moved, uneven, lineAgainst, ratioAgainst, leastIsokinetic, greatestIsokinetic, lacking}
 use Rattle.rules.specs.Rules.{lastRule, table, groundOf, placesOf}
 use Rattle.findings.specs.Listing.{partOf, oneOfKind, ofKind, besideOf, brokenAt, findingAt, ruleFindings, findingsTo, findings, linesFor, findingsFor, mostFindings, Worked}

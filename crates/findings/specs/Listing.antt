@@ -18,8 +18,8 @@ use Rattle.certs.specs.Factor.{factorOf, coefficientOf, diametersOf}
 use Rattle.conditions.specs.declared.Part.{Part}
 use Rattle.conditions.specs.declared.Part.the-variants.{Whole, OnePoint, OneSegment, OneWeighing}
 use Rattle.rules.specs.declared.Beside.{Beside}
-use Rattle.conditions.specs.Grounds.{broken}
-use Rattle.conditions.specs.Conditions.{minimumPoints}
+use Rattle.grounds.specs.Grounds.{broken}
+use Rattle.site.specs.Site.{minimumPoints}
 use Rattle.rules.specs.Rules.{lastRule, groundOf, placesOf, placeAt, fault, classOf}
 use Rattle.findings.specs.declared.Finding.{Finding}
 use Rattle.findings.specs.declared.Findings.{Findings}

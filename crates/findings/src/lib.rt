@@ -5,11 +5,11 @@ pub mod weighings;
 
 use certs::Chosen;
 use conditions::Part;
-use conditions::site::minimum_points;
 use lines::Lines;
 use readings::weighings::WeighingKind;
 use records::Run;
 use rules::Beside;
+use site::minimum_points;
 use weighings::of_kind;
 ghost use mathlib.Core.Path.{_≡_};
 ghost use Prim.Native.Nat.{_≤_};

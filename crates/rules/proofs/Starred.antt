@@ -4,10 +4,10 @@ use mathlib.Core.Path.{_≡_, refl}
 use mathlib.Core.List.{List, [], _∷_, _++_, map}
 use native.Mathlib.Omega.{arith}
 use borrow.Author.Tests.{le-ltb}
-use Rattle.comparing.specs.declared.Way.the-variants.{Below, Above}
-use Rattle.comparing.specs.Comparing.{holds, holdsExactly, compareExactly, apart}
+use Rattle.grounds.specs.declared.comparison.Way.the-variants.{Below, Above}
+use Rattle.grounds.specs.Comparing.{holds, holdsExactly, compareExactly, apart}
 use Rattle.certs.specs.Factor.{factorMoved, factor, factorOf}
-use Rattle.conditions.specs.Grounds.{broken}
+use Rattle.grounds.specs.Grounds.{broken}
 use Rattle.conditions.specs.Conditions.{moved, ratioAgainst, leastIsokinetic, greatestIsokinetic}
 use Rattle.rules.specs.Rules.{table, groundOf}
 use Rattle.rules.specs.Starred.{Each, StarredFactor, starredFactors, FactorStands, Such, StarredIsokinetic, starredIsokinetic, IsokineticStands}

@@ -3,7 +3,7 @@ use Prim.Native.Nat.{ℕ}
 use mathlib.Core.Path.{_≡_, refl}
 use mathlib.Core.List.{List, [], _∷_}
 use borrow.Author.Tests.{ne-eqb}
-use Rattle.conditions.specs.declared.grounds.Ground.the-variants.{Silent}
+use Rattle.grounds.specs.declared.Ground.the-variants.{Silent}
 use Rattle.rules.specs.Rules.{Rule, groundIn}
 
 -- P, and the number is that of no rule, told in turn

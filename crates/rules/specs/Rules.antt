@@ -7,11 +7,12 @@ use Rattle.readings.specs.Ranges.{greatestAboveFirst, greatestTotalSeconds}
 use Rattle.grids.specs.Grids.{oneOf}
 use Rattle.records.specs.declared.Counts.{Counts}
 use Rattle.values.specs.declared.Value.the-variants.{Known}
-use Rattle.comparing.specs.declared.Way.the-variants.{Below, Above, Same}
-use Rattle.conditions.specs.declared.grounds.Ground.{Ground}
-use Rattle.conditions.specs.declared.grounds.Ground.the-variants.{Silent}
+use Rattle.grounds.specs.declared.comparison.Way.the-variants.{Below, Above, Same}
+use Rattle.grounds.specs.declared.Ground.{Ground}
+use Rattle.grounds.specs.declared.Ground.the-variants.{Silent}
 use Rattle.conditions.specs.declared.Part.{Part}
-use Rattle.conditions.specs.Conditions.{missing, moved, uneven, narrow, disturbed, wrongPoints, short, leaking, lineAgainst, ratioAgainst, leastIsokinetic, greatestIsokinetic, unsteady, lacking, negative}
+use Rattle.site.specs.Site.{narrow, disturbed, wrongPoints}
+use Rattle.conditions.specs.Conditions.{missing, moved, uneven, short, leaking, lineAgainst, ratioAgainst, leastIsokinetic, greatestIsokinetic, unsteady, lacking, negative}
 use Rattle.rules.specs.declared.Beside.{Beside}
 
 -- a rule: its number, and what it goes by

@@ -11,7 +11,7 @@ use Rattle.certs.specs.declared.Lookup.the-variants.{Found}
 use Rattle.certs.specs.Factor.{factorOf}
 use Rattle.conditions.specs.declared.Part.{Part}
 use Rattle.rules.specs.declared.Beside.{Beside}
-use Rattle.conditions.specs.Grounds.{broken}
+use Rattle.grounds.specs.Grounds.{broken}
 use Rattle.rules.specs.Rules.{groundOf}
 
 -- what holds of each in a list

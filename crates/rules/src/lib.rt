@@ -2,26 +2,26 @@
 // places it speaks, and its class. Relies on the conditions.
 
 use certs::Chosen;
-use comparing::Way;
 use conditions::Part;
 use conditions::certificates::missing;
 use conditions::certificates::moved;
 use conditions::certificates::uneven;
 use conditions::field::leaking;
 use conditions::field::short;
-use conditions::grounds::Ground;
 use conditions::sheet::Isokinetic;
 use conditions::sheet::line_against;
 use conditions::sheet::ratio_against;
-use conditions::site::disturbed;
-use conditions::site::narrow;
-use conditions::site::wrong_points;
 use conditions::weighings::lacking;
 use conditions::weighings::negative;
 use conditions::weighings::unsteady;
+use grounds::Ground;
+use grounds::comparison::Way;
 use lines::Lines;
 use records::Counts;
 use records::Site;
+use site::disturbed;
+use site::narrow;
+use site::wrong_points;
 use values::Value;
 ghost use mathlib.Core.Path.{_≡_};
 ghost use Rattle.rules.specs.Rules.{groundOf, placesOf, placeAt, classOf, Judgeable};

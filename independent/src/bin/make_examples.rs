@@ -11,6 +11,7 @@ fn main() -> io::Result<()> {
     fs::create_dir_all(folder)?;
     write_with_sheet(folder, "worked", &samples::worked())?;
     write_with_sheet(folder, "several-runs", &samples::several_runs())?;
+    write_with_sheet(folder, "percent-limits", &samples::percent_limits())?;
     write_with_sheet(folder, "refused", &samples::refused())?;
     fs::write(folder.join("longest.job"), samples::longest().bytes())
 }

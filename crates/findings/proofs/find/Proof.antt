@@ -13,7 +13,7 @@ use Rattle.records.specs.declared.Segment.{Segment}
 use Rattle.records.specs.declared.Weighing.{Weighing}
 use Rattle.records.specs.declared.RunHeader.{RunHeader}
 use Rattle.rules.specs.declared.Beside.{Beside}
-use Rattle.conditions.specs.Grounds.{broken}
+use Rattle.grounds.specs.Grounds.{broken}
 use Rattle.rules.specs.Rules.{lastRule, groundOf, placesOf}
 use Rattle.findings.specs.Listing.{partOf, brokenAt, findings, findingsTo, ruleFindings, mostFindings}
 use Rattle.arrays.proofs.Filled.{filled-none}

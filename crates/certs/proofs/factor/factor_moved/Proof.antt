@@ -1,7 +1,7 @@
 -- `factor_moved` is `factorMoved`; the two factors fit 16 bits, so twenty times how far they are apart fits.
 use native.Mathlib.Omega.{arith}
 use borrow.Author.Needs.{needs}
-use Rattle.comparing.specs.Comparing.{apart}
+use Rattle.grounds.specs.Comparing.{apart}
 use Rattle.certs.specs.Factor.{factorMoved}
 use Rattle.certs.proofs.factor.factor_moved.Statement.{statement}
 use Rattle.certs.proofs.factor.factor_moved.Tie as tie

@@ -1,2 +1,0 @@
--- Comparisons of whole numbers.
-pub mod Comparing

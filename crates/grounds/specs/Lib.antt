@@ -1,0 +1,3 @@
+-- What rules go by, and when that breaks them.
+pub mod Comparing
+pub mod Grounds

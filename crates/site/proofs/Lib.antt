@@ -1,0 +1,3 @@
+-- The laws of the site, which the layers above cite.
+pub mod Products
+pub mod Words

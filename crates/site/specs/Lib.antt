@@ -1,0 +1,2 @@
+-- The sampling site.
+pub mod Site
