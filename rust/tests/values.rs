@@ -1,5 +1,6 @@
 //! The values to try a program on of docs/RULES.md that no theorem has: layouts,
-//! the worked job in a slow stack, with the least gas, and made bad.
+//! the worked job in a slow stack, with the least gas, at the limits of line 18, and
+//! made bad.
 
 use leverbonnet::{rect_distances, reduce_run, round_distances, run_numbers, Error};
 
@@ -74,6 +75,37 @@ fn the_least_dry_volume() {
     }
     let expected = [1, 200_000, 6_100, 1].map(Some);
     assert_eq!(values(&job, [3, 4, 5, 6]), expected);
+}
+
+/// The worked job with a nozzle of 218 and eight tight points of 625 seconds, at
+/// that head and last meter reading.
+fn at_a_limit(head: u16, reading: u32) -> Vec<u8> {
+    let mut job = with(110, &reading.to_le_bytes());
+    for (place, value) in [(67, 218), (69, 218), (71, 218), (233, 5_000), (235, 0)] {
+        put(&mut job, place, value);
+    }
+    for point in POINTS {
+        put(&mut job, point, 625);
+        put(&mut job, point + 2, head);
+    }
+    job
+}
+
+#[test]
+fn the_percent_is_judged_before_it_is_rounded() {
+    for (head, reading, lines, rules) in [
+        (432, 134_439, [80_431, 41_375, 25_920, 9_000], &[15][..]),
+        (432, 134_440, [80_433, 41_375, 25_920, 9_000], &[]),
+        (428, 142_721, [97_416, 41_000, 25_920, 11_000], &[]),
+        (428, 142_722, [97_418, 41_000, 25_920, 11_000], &[16]),
+    ] {
+        let job = at_a_limit(head, reading);
+        assert_eq!(values(&job, [17, 15, 16, 18]), lines.map(Some));
+        let run = reduce_run(&job, 7).unwrap();
+        let found: Vec<u8> = run.findings.iter().map(|finding| finding.rule).collect();
+        assert_eq!(found, rules);
+        assert_eq!(run.accepted, rules.is_empty());
+    }
 }
 
 #[test]
