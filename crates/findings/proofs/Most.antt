@@ -24,7 +24,7 @@ use Rattle.certs.specs.declared.Lookup.{Lookup}
 use Rattle.certs.specs.declared.Lookup.the-variants.{Found, Nothing}
 use Rattle.certs.specs.declared.Chosen.{Chosen}
 use Rattle.grounds.specs.declared.comparison.Way.the-variants.{Below, Above, Same}
-use Rattle.grounds.specs.Comparing.{holds, holdsExactly, compareExactly}
+use Rattle.grounds.specs.Comparing.{holds, deciding, compareExactly}
 use Rattle.rules.specs.declared.Beside.{Beside}
 use Rattle.grounds.specs.Grounds.{broken}
 use Rattle.conditions.specs.Conditions.{missing, moved, uneven, lineAgainst, ratioAgainst, leastIsokinetic, greatestIsokinetic, lacking}
@@ -108,7 +108,7 @@ zero-missing v rest e none = rw e (omega arith)
 
 -- the percent isokinetic is not below 9,000 and above 11,000
 percent-once : (v : Ratio) → bit (broken (ratioAgainst v Below leastIsokinetic)) + bit (broken (ratioAgainst v Above greatestIsokinetic)) ≤ 1
-unfolding broken ratioAgainst holdsExactly
+unfolding broken ratioAgainst holds deciding
 percent-once Unworked = omega arith
 percent-once (Exact n) = go (decLe (n .quotient) leastIsokinetic)
   where
@@ -116,10 +116,10 @@ percent-once (Exact n) = go (decLe (n .quotient) leastIsokinetic)
     q = n .quotient
 
     fifteen : Bool
-    fifteen = holdsExactly (compareExactly q (n .remainder) Below leastIsokinetic)
+    fifteen = holds (deciding (compareExactly q (n .remainder) Below leastIsokinetic))
 
     sixteen : Bool
-    sixteen = holdsExactly (compareExactly q (n .remainder) Above greatestIsokinetic)
+    sixteen = holds (deciding (compareExactly q (n .remainder) Above greatestIsokinetic))
 
     not-sixteen : q ≤ leastIsokinetic → sixteen ≡ false
     not-sixteen low = rw (ne-eqb q greatestIsokinetic (omega arith)) (le-ltb greatestIsokinetic q (omega arith))

@@ -74,11 +74,14 @@ pub fn find(run: Run, chosen: Chosen, lines: Lines) -> Findings
     let segments = run.segments;
     let weighings = run.weighings;
     let beside = beside_of(run, chosen, lines);
-    let mut list = [Finding {
-        rule: 0,
-        class: 0,
-        place: 0,
-    }; MOST_FINDINGS];
+    let mut found = Findings {
+        count: 0,
+        list: [Finding {
+            rule: 0,
+            class: 0,
+            place: 0,
+        }; MOST_FINDINGS],
+    };
     let mut count: usize = 0;
     let mut done: u8 = 0;
     while done < rules::LAST_RULE {
@@ -93,17 +96,15 @@ pub fn find(run: Run, chosen: Chosen, lines: Lines) -> Findings
                 _ => Part::Whole,
             };
             if rules::ground_of(part, beside, rule).broken() {
-                list[count] = finding_at(rule, i);
+                found.list[count] = finding_at(rule, i);
                 count += 1;
             }
             i += 1;
         }
         done = rule;
     }
-    Findings {
-        count: count,
-        list: list,
-    }
+    found.count = count;
+    found
 }
 
 // Whether no finding is a fault.

@@ -8,7 +8,7 @@ use native.Mathlib.Omega.{arith}
 use borrow.Author.Tests.{lt-ltb, le-ltb, eq-eqb, ne-eqb}
 use Rattle.grounds.specs.declared.comparison.Way.{Way}
 use Rattle.grounds.specs.declared.comparison.Way.the-variants.{Below, Above, Same, Differs}
-use Rattle.grounds.specs.Comparing.{standsTo, holdsExactly, compareExactly}
+use Rattle.grounds.specs.Comparing.{standsTo, holds, deciding, compareExactly}
 
 -- How two numbers stand hangs on nothing but their order
 
@@ -31,8 +31,8 @@ higher Same a b h = ne-eqb a b (omega arith)
 higher Differs a b h = ap not (ne-eqb a b (omega arith))
 
 -- for a dividend n and a divisor d, whichever way
-pub exactly : (way : Way) (n d limit : ℕ) → 0 < d → holdsExactly (compareExactly (n / d) (n % d) way limit) ≡ standsTo way n (limit * d)
-unfolding holdsExactly
+pub exactly : (way : Way) (n d limit : ℕ) → 0 < d → holds (deciding (compareExactly (n / d) (n % d) way limit)) ≡ standsTo way n (limit * d)
+unfolding holds deciding
 exactly way n d limit some = go (decLt q limit) (decLt limit q)
   where
     q : ℕ
@@ -58,7 +58,7 @@ exactly way n d limit some = go (decLt q limit) (decLt limit q)
         let same : q * d ≡ limit * d = ap (λ k. k * d) is in
         level way (n % d) 0 (omega (arith, none)) ∙ sym (level way n (limit * d) (omega (arith, none, parts)))
 
-    go : Dec (q < limit) → Dec (limit < q) → holdsExactly (compareExactly q (n % d) way limit) ≡ standsTo way n (limit * d)
+    go : Dec (q < limit) → Dec (limit < q) → holds (deciding (compareExactly q (n % d) way limit)) ≡ standsTo way n (limit * d)
     go (yes low) high =
         rw (ne-eqb q limit (omega arith)) (lower way q limit low ∙ sym (lower way n (limit * d) (omega (arith, within low, parts, rest))))
     go (no f) (yes high) =

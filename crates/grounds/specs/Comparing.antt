@@ -22,10 +22,10 @@ holds c = standsTo (c .way) (c .left) (c .right)
 abbrev pub compare : ℕ → Way → ℕ → Comparison
 compare a way b = record { left = a; way = way; right = b }
 
--- a quotient and a remainder against a limit and 0: the quotient decides, and the remainder only where the quotient equals the limit
-unfoldable pub holdsExactly : ExactComparison → Bool
-holdsExactly c =
-    cond (eqb (c .quotient) (c .limit)) (standsTo (c .way) (c .remainder) 0) (standsTo (c .way) (c .quotient) (c .limit))
+-- of a quotient and a remainder against a limit and 0, what decides: the quotient, and the remainder only where the quotient equals the limit
+unfoldable pub deciding : ExactComparison → Comparison
+deciding c =
+    cond (eqb (c .quotient) (c .limit)) (compare (c .remainder) (c .way) 0) (compare (c .quotient) (c .way) (c .limit))
 
 -- the comparison of a quotient and a remainder with a limit and 0
 abbrev pub compareExactly : ℕ → ℕ → Way → ℕ → ExactComparison

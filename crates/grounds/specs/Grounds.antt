@@ -1,7 +1,7 @@
 -- What a rule goes by, and when that breaks it.
 use mathlib.Core.Bool.{Bool, true, false, _||_}
 use lib.Signed.{ltZ}
-use Rattle.grounds.specs.Comparing.{holds, holdsExactly}
+use Rattle.grounds.specs.Comparing.{holds, deciding}
 use Rattle.grounds.specs.declared.Ground.{Ground}
 use Rattle.grounds.specs.declared.Ground.the-variants.{Silent, NoCertificate, Compared, Either, Exactly, SignedBelow}
 
@@ -11,5 +11,5 @@ broken Silent = false
 broken NoCertificate = true
 broken (Compared c) = holds c
 broken (Either a b) = holds a || holds b
-broken (Exactly c) = holdsExactly c
+broken (Exactly c) = holds (deciding c)
 broken (SignedBelow left right) = ltZ left right

@@ -1,7 +1,7 @@
 // Comparisons of whole numbers: what a rule sets against what, and which way it is broken.
 
 ghost use mathlib.Core.Path.{_≡_};
-ghost use Rattle.grounds.specs.Comparing.{standsTo, holds, holdsExactly, apart};
+ghost use Rattle.grounds.specs.Comparing.{holds, deciding, apart};
 
 // Which way a comparison goes.
 pub enum Way {
@@ -9,18 +9,6 @@ pub enum Way {
     Above,
     Same,
     Differs,
-}
-
-// Whether the left number stands to the right one that way.
-fn stands_to(way: Way, left: u64, right: u64) -> bool
-    ensures { λ r. ⌜ r ≡ standsTo way left right ⌝ }
-{
-    match way {
-        Way::Below => left < right,
-        Way::Above => right < left,
-        Way::Same => left == right,
-        Way::Differs => left != right,
-    }
 }
 
 // Two numbers, and the way that one is set against the other.
@@ -36,7 +24,12 @@ impl Comparison {
         ensures { λ r. ⌜ r ≡ holds self ⌝ }
     {
         let way = self.way;
-        stands_to(way, self.left, self.right)
+        match way {
+            Way::Below => self.left < self.right,
+            Way::Above => self.right < self.left,
+            Way::Same => self.left == self.right,
+            Way::Differs => self.left != self.right,
+        }
     }
 }
 
@@ -49,15 +42,23 @@ pub struct ExactComparison {
 }
 
 impl ExactComparison {
-    // The quotient decides, and the remainder only where the quotient equals the limit.
-    pub fn holds(self) -> bool
-        ensures { λ r. ⌜ r ≡ holdsExactly self ⌝ }
+    // What decides: the quotient, and the remainder only where the quotient equals the limit.
+    pub fn deciding(self) -> Comparison
+        ensures { λ r. ⌜ r ≡ deciding self ⌝ }
     {
         let way = self.way;
         if self.quotient == self.limit {
-            return stands_to(way, self.remainder, 0);
+            return Comparison {
+                left: self.remainder,
+                way: way,
+                right: 0,
+            };
         }
-        stands_to(way, self.quotient, self.limit)
+        Comparison {
+            left: self.quotient,
+            way: way,
+            right: self.limit,
+        }
     }
 }
 

@@ -37,7 +37,7 @@ impl Ground {
                 }
                 b.holds()
             }
-            Ground::Exactly(c) => c.holds(),
+            Ground::Exactly(c) => c.deciding().holds(),
             Ground::SignedBelow(left, right) => left < right,
         }
     }

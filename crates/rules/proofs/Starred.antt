@@ -5,7 +5,7 @@ use mathlib.Core.List.{List, [], _∷_, _++_, map}
 use native.Mathlib.Omega.{arith}
 use borrow.Author.Tests.{le-ltb}
 use Rattle.grounds.specs.declared.comparison.Way.the-variants.{Below, Above}
-use Rattle.grounds.specs.Comparing.{holds, holdsExactly, compareExactly, apart}
+use Rattle.grounds.specs.Comparing.{holds, deciding, compareExactly, apart}
 use Rattle.certs.specs.Factor.{factorMoved, factor, factorOf}
 use Rattle.grounds.specs.Grounds.{broken}
 use Rattle.conditions.specs.Conditions.{moved, ratioAgainst, leastIsokinetic, greatestIsokinetic}
@@ -29,10 +29,10 @@ abbrev Faults : StarredIsokinetic → Type 0
 Faults s =
     (r : ℕ)
     → Such (s .remainder) r
-    → (holdsExactly (compareExactly (s .quotient) r Below leastIsokinetic) ≡ s .fifteen) × (holdsExactly (compareExactly (s .quotient) r Above greatestIsokinetic) ≡ s .sixteen)
+    → (holds (deciding (compareExactly (s .quotient) r Below leastIsokinetic)) ≡ s .fifteen) × (holds (deciding (compareExactly (s .quotient) r Above greatestIsokinetic)) ≡ s .sixteen)
 
 faults : Each Faults starredIsokinetic
-unfolding starredIsokinetic holdsExactly
+unfolding starredIsokinetic holds deciding
 faults = (
   λ r none. (refl, refl),
   (

@@ -30,20 +30,20 @@ brokenIn header points segments weighings beside rule i =
     broken (groundOf (partOf (record { header = header; points = points; segments = segments; weighings = weighings }) rule i) beside rule)
 
 abbrev Inv-loop2 : tie.InvT-loop2
-Inv-loop2 header points segments weighings beside list₀ count₀ done rule places i₀ list count i =
+Inv-loop2 header points segments weighings beside found₀ count₀ done rule places i₀ found count i =
     (i ≤ places)
-    × Entered (findingsTo (brokenIn header points segments weighings beside) (placesOf (header .counts)) done ++ ruleFindings (brokenIn header points segments weighings beside (done + 1)) (done + 1) i) count list
+    × Entered (findingsTo (brokenIn header points segments weighings beside) (placesOf (header .counts)) done ++ ruleFindings (brokenIn header points segments weighings beside (done + 1)) (done + 1) i) count (found .list)
 
 abbrev μ-loop2 : tie.MeasureT-loop2
-μ-loop2 header points segments weighings beside list₀ count₀ done rule places i₀ list count i = places - i
+μ-loop2 header points segments weighings beside found₀ count₀ done rule places i₀ found count i = places - i
 
 abbrev Inv-loop : tie.InvT-loop
-Inv-loop header points segments weighings beside list₀ count₀ done₀ list count done =
+Inv-loop header points segments weighings beside found₀ count₀ done₀ found count done =
     (done ≤ lastRule)
-    × Entered (findingsTo (brokenIn header points segments weighings beside) (placesOf (header .counts)) done) count list
+    × Entered (findingsTo (brokenIn header points segments weighings beside) (placesOf (header .counts)) done) count (found .list)
 
 abbrev μ-loop : tie.MeasureT-loop
-μ-loop header points segments weighings beside list₀ count₀ done₀ list count done = lastRule - done
+μ-loop header points segments weighings beside found₀ count₀ done₀ found count done = lastRule - done
 
 beside-of-requires : tie.Need-beside-of-requires Inv-loop2 μ-loop2 Inv-loop μ-loop
 beside-of-requires c κs = weighings-in _ _ _ (c .before .before .before .before .pre)
@@ -60,23 +60,23 @@ places-requires c κs = search needs
 loop2-holds : tie.Need-loop2-holds Inv-loop2 μ-loop2 Inv-loop μ-loop
 loop2-holds c = (omega arith, entered-first _ _ _ (c .before .before .loop .inv .1))
 
-cast-t20 : tie.Need-cast-t20 Inv-loop2 μ-loop2 Inv-loop μ-loop
-cast-t20 c = omega arith
+cast-t21 : tie.Need-cast-t21 Inv-loop2 μ-loop2 Inv-loop μ-loop
+cast-t21 c = omega arith
 
-mul-t21 : tie.Need-mul-t21 Inv-loop2 μ-loop2 Inv-loop μ-loop
-mul-t21 c = omega arith
+mul-t22 : tie.Need-mul-t22 Inv-loop2 μ-loop2 Inv-loop μ-loop
+mul-t22 c = omega arith
 
-cast-t25 : tie.Need-cast-t25 Inv-loop2 μ-loop2 Inv-loop μ-loop
-cast-t25 c = omega arith
+cast-t26 : tie.Need-cast-t26 Inv-loop2 μ-loop2 Inv-loop μ-loop
+cast-t26 c = omega arith
 
-mul-t26 : tie.Need-mul-t26 Inv-loop2 μ-loop2 Inv-loop μ-loop
-mul-t26 c = omega arith
+mul-t27 : tie.Need-mul-t27 Inv-loop2 μ-loop2 Inv-loop μ-loop
+mul-t27 c = omega arith
 
-cast-t30 : tie.Need-cast-t30 Inv-loop2 μ-loop2 Inv-loop μ-loop
-cast-t30 c = omega arith
+cast-t31 : tie.Need-cast-t31 Inv-loop2 μ-loop2 Inv-loop μ-loop
+cast-t31 c = omega arith
 
-mul-t31 : tie.Need-mul-t31 Inv-loop2 μ-loop2 Inv-loop μ-loop
-mul-t31 c = omega arith
+mul-t32 : tie.Need-mul-t32 Inv-loop2 μ-loop2 Inv-loop μ-loop
+mul-t32 c = omega arith
 
 -- where the loops begin: what stands beside is made; and a turn of the inner loop
 abbrev Begun : Type 0
@@ -111,14 +111,14 @@ rule-in t = omega (arith, t .before .before .before .loop-test .taken)
 place-in : (t : Turn) → passed t < placesOf (start (begun t) .args .run .header .counts) (done t + 1)
 place-in t = rw (t .before .before .places .ensures) at (t .loop2-test .taken)
 
-array-copy-out-t24 : tie.Need-array-copy-out-t24 Inv-loop2 μ-loop2 Inv-loop μ-loop
-array-copy-out-t24 c = point-in _ _ _ (start (begun (c .before)) .pre) (c .match .keys1) (place-in (c .before))
+array-copy-out-t25 : tie.Need-array-copy-out-t25 Inv-loop2 μ-loop2 Inv-loop μ-loop
+array-copy-out-t25 c = point-in _ _ _ (start (begun (c .before)) .pre) (c .match .keys1) (place-in (c .before))
 
-array-copy-out-t29 : tie.Need-array-copy-out-t29 Inv-loop2 μ-loop2 Inv-loop μ-loop
-array-copy-out-t29 c = segment-in _ _ _ (start (begun (c .before)) .pre) (c .match .keys2) (place-in (c .before))
+array-copy-out-t30 : tie.Need-array-copy-out-t30 Inv-loop2 μ-loop2 Inv-loop μ-loop
+array-copy-out-t30 c = segment-in _ _ _ (start (begun (c .before)) .pre) (c .match .keys2) (place-in (c .before))
 
-array-copy-out-t34 : tie.Need-array-copy-out-t34 Inv-loop2 μ-loop2 Inv-loop μ-loop
-array-copy-out-t34 c = weighing-in _ _ _ (start (begun (c .before)) .pre) (c .match .keys3) (place-in (c .before))
+array-copy-out-t35 : tie.Need-array-copy-out-t35 Inv-loop2 μ-loop2 Inv-loop μ-loop
+array-copy-out-t35 c = weighing-in _ _ _ (start (begun (c .before)) .pre) (c .match .keys3) (place-in (c .before))
 
 -- the part that the rule looks at
 part-is : (c : tie.At-match-came Inv-loop2 μ-loop2 Inv-loop μ-loop) → c .match .part ≡ partOf (start (begun (c .before)) .args .run) (done (c .before) + 1) (passed (c .before))
@@ -151,11 +151,11 @@ has-room c =
     entered-room _ _ _ _ (fits (begun turn)) (rule-in turn) (place-in turn) (test-is (c .before .before)) (c .before .if1 .taken)
     (turn .before .loop2 .inv .1)
 
-mul-list : tie.Need-mul-list Inv-loop2 μ-loop2 Inv-loop μ-loop
-mul-list c = omega (arith, has-room c)
+mul-t39 : tie.Need-mul-t39 Inv-loop2 μ-loop2 Inv-loop μ-loop
+mul-t39 c = omega (arith, has-room c)
 
-array-set-from-list : tie.Need-array-set-from-list Inv-loop2 μ-loop2 Inv-loop μ-loop
-array-set-from-list c = has-room c
+element-set-from-found : tie.Need-element-set-from-found Inv-loop2 μ-loop2 Inv-loop μ-loop
+element-set-from-found c = has-room c
 
 add-count : tie.Need-add-count Inv-loop2 μ-loop2 Inv-loop μ-loop
 add-count c = omega (arith, has-room c)
@@ -208,20 +208,20 @@ find-spec =
     add-rule
     places-requires
     loop2-holds
-    cast-t20
-    mul-t21
-    array-copy-out-t24
-    cast-t25
-    mul-t26
-    array-copy-out-t29
-    cast-t30
-    mul-t31
-    array-copy-out-t34
+    cast-t21
+    mul-t22
+    array-copy-out-t25
+    cast-t26
+    mul-t27
+    array-copy-out-t30
+    cast-t31
+    mul-t32
+    array-copy-out-t35
     ground-of-requires
     broken-requires
     finding-at-requires
-    mul-list
-    array-set-from-list
+    mul-t39
+    element-set-from-found
     add-count
     add-i
     loop2-less

@@ -1,8 +1,10 @@
 -- `broken` is its definition, case by case; signed numbers are read back from their bits.
+use mathlib.Core.Path.{_∙_, ap}
 use mir.Facts.{toZ-ofZ}
 use mir.Syntax.{w64}
 use mir.Val.{SFits}
 use borrow.Author.Needs.{needs}
+use Rattle.grounds.specs.Comparing.{holds}
 use Rattle.grounds.specs.Grounds.{broken}
 use Rattle.grounds.proofs.Ground.broken.Statement.{statement}
 use Rattle.grounds.proofs.Ground.broken.Tie as tie
@@ -35,6 +37,9 @@ holds-requires-3 c κs = search needs
 enum-known-self-3 : tie.Need-enum-known-self-3
 enum-known-self-3 c = search needs
 
+deciding-requires : tie.Need-deciding-requires
+deciding-requires c κs = search needs
+
 holds-requires-4 : tie.Need-holds-requires-4
 holds-requires-4 c κs = search needs
 
@@ -60,7 +65,7 @@ returns-5 c =
 
 returns-6 : tie.Need-returns-6
 unfolding broken
-returns-6 c = rw (c .before .before .self3 .given .1) (c .holds4 .ensures)
+returns-6 c = rw (c .before .before .before .self3 .given .1) (c .holds4 .ensures ∙ ap holds (c .before .deciding .ensures))
 
 returns-7 : tie.Need-returns-7
 unfolding broken
@@ -82,6 +87,7 @@ broken-spec =
     returns
     holds-requires-3
     enum-known-self-3
+    deciding-requires
     holds-requires-4
     enum-known-self-4
     returns-2
