@@ -94,13 +94,13 @@ fn at_a_limit(head: u16, reading: u32) -> Vec<u8> {
 #[test]
 fn the_percent_is_judged_before_it_is_rounded() {
     for (head, reading, lines, rules) in [
-        (432, 134_439, [80_431, 41_375, 25_920, 9_000], &[15][..]),
-        (432, 134_440, [80_433, 41_375, 25_920, 9_000], &[]),
-        (428, 142_721, [97_416, 41_000, 25_920, 11_000], &[]),
-        (428, 142_722, [97_418, 41_000, 25_920, 11_000], &[16]),
+        (432, 134_439, [41_375, 25_920, 80_431, 9_000], &[15][..]),
+        (432, 134_440, [41_375, 25_920, 80_433, 9_000], &[]),
+        (428, 142_721, [41_000, 25_920, 97_416, 11_000], &[]),
+        (428, 142_722, [41_000, 25_920, 97_418, 11_000], &[16]),
     ] {
         let job = at_a_limit(head, reading);
-        assert_eq!(values(&job, [17, 15, 16, 18]), lines.map(Some));
+        assert_eq!(values(&job, [15, 16, 17, 18]), lines.map(Some));
         let run = reduce_run(&job, 7).unwrap();
         let found: Vec<u8> = run.findings.iter().map(|finding| finding.rule).collect();
         assert_eq!(found, rules);

@@ -1,4 +1,4 @@
--- The comparison of a quotient and its remainder with a limit and 0 is that of the dividend with so many times the divisor.
+-- The comparison of a quotient and its remainder with a limit and 0 comes out as that of the dividend with so many times the divisor.
 use Prim.Native.Nat.{ℕ, _+_, _*_, _/_, _%_, _≤_, _<_}
 use mathlib.Core.Path.{_≡_, sym, _∙_, ap}
 use mathlib.Core.Bool.{not}
@@ -44,7 +44,7 @@ exactly way n d limit some = go (decLt q limit) (decLt limit q)
     rest : n % d < d
     rest = mod-lt n some
 
-    -- of two quotients, so many times the divisor of the lower one reaches the next at most
+    -- a higher number of divisors is a whole divisor more, at least
     within : {a b : ℕ} → a < b → a * d + d ≤ b * d
     within {a} {b} h =
         let next : a + 1 ≤ b = omega arith in

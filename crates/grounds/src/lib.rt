@@ -1,5 +1,5 @@
 // What a rule goes by at one place, and whether that breaks it. A rule that compares numbers is its comparison.
-// Nothing here knows of stacks, meters or rules.
+// Nothing here knows which rule it is.
 
 pub mod comparison;
 
