@@ -144,10 +144,8 @@ fn isokinetic_verdicts() {
         .map(|pair| (pair[0].0, pair[1].0))
         .collect();
     // Before rounding 8,999.98 and 9,000.31, 10,999.90 and 11,000.12.
-    assert_eq!(
-        changes,
-        [(Some(9_000), Some(9_000)), (Some(11_000), Some(11_000)),]
-    );
+    let limits = [9_000, 11_000].map(|limit| (Some(limit), Some(limit)));
+    assert_eq!(changes, limits);
 }
 
 #[test]

@@ -1,6 +1,6 @@
 -- Lines 6 and 8 case by case.
 use Prim.Native.Nat.{ℕ, _+_, _*_, _^_}
-use mathlib.Core.Path.{_≡_}
+use mathlib.Core.Path.{_≡_, refl}
 use Rattle.arith.specs.Rounding.{roundDiv}
 use Rattle.values.specs.declared.Value.{Value}
 use Rattle.values.specs.declared.Value.the-variants.{Known, Missing}
@@ -12,9 +12,10 @@ pub dry-missing : {y : Value} (corrected p t : ℕ) → y ≡ Missing → dryVol
 unfolding dryVolume
 dry-missing corrected p t e = rw e
 
-pub dry-zero : {y : Value} {corrected f : ℕ} (p t : ℕ) → y ≡ Known f → corrected ≡ 0 → dryVolume corrected y p t ≡ Missing
+pub dry-zero : {corrected : ℕ} (y : Value) (p t : ℕ) → corrected ≡ 0 → dryVolume corrected y p t ≡ Missing
 unfolding dryVolume
-dry-zero p t e z = rw e (unless-zero _ z)
+dry-zero Missing p t z = refl
+dry-zero (Known f) p t z = unless-zero _ z
 
 pub dry-known : {y : Value} {f : ℕ} (corrected p t : ℕ) → y ≡ Known f → (corrected ≡ 0 → ⊥) → dryVolume corrected y p t ≡ Known (roundDiv (1764 * corrected * f * p) (10 ^ 9 * t))
 unfolding dryVolume

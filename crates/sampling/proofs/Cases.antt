@@ -34,17 +34,22 @@ pub isokinetic-no-gas : {drawn : Value} (velocity area : Value) (t : ℕ) → dr
 unfolding isokinetic
 isokinetic-no-gas velocity area t e = rw e
 
-pub isokinetic-no-velocity : {drawn velocity : Value} {g : ℕ} (area : Value) (t : ℕ) → drawn ≡ Known g → velocity ≡ Missing → isokinetic drawn velocity area t ≡ Unworked
+pub isokinetic-no-velocity : {velocity : Value} (drawn area : Value) (t : ℕ) → velocity ≡ Missing → isokinetic drawn velocity area t ≡ Unworked
 unfolding isokinetic
-isokinetic-no-velocity area t e f = rw (e, f)
+isokinetic-no-velocity Missing area t e = refl
+isokinetic-no-velocity (Known g) area t e = rw e
 
-pub isokinetic-no-area : {drawn velocity area : Value} {g s : ℕ} (t : ℕ) → drawn ≡ Known g → velocity ≡ Known s → area ≡ Missing → isokinetic drawn velocity area t ≡ Unworked
+pub isokinetic-no-area : {area : Value} (drawn velocity : Value) (t : ℕ) → area ≡ Missing → isokinetic drawn velocity area t ≡ Unworked
 unfolding isokinetic
-isokinetic-no-area t e f h = rw (e, f, h)
+isokinetic-no-area Missing velocity t e = refl
+isokinetic-no-area (Known g) Missing t e = refl
+isokinetic-no-area (Known g) (Known s) t e = rw e
 
-pub isokinetic-still : {drawn velocity area : Value} {g s a : ℕ} (t : ℕ) → drawn ≡ Known g → velocity ≡ Known s → area ≡ Known a → s ≡ 0 → isokinetic drawn velocity area t ≡ Unworked
+pub isokinetic-still : {velocity : Value} {s : ℕ} (drawn area : Value) (t : ℕ) → velocity ≡ Known s → s ≡ 0 → isokinetic drawn velocity area t ≡ Unworked
 unfolding isokinetic
-isokinetic-still {s = s} t e f h z = rw (e, f, h, eq-eqb s 0 z)
+isokinetic-still Missing area t e z = refl
+isokinetic-still (Known g) Missing t e z = rw e
+isokinetic-still {s = s} (Known g) (Known a) t e z = rw (e, eq-eqb s 0 z)
 
 pub isokinetic-known : {drawn velocity area : Value} {g s a : ℕ} (t : ℕ) → drawn ≡ Known g → velocity ≡ Known s → area ≡ Known a → (s ≡ 0 → ⊥) → isokinetic drawn velocity area t ≡ Exact (division (6 * 10 ^ 11 * g) (s * a * t))
 unfolding isokinetic

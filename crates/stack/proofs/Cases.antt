@@ -1,6 +1,6 @@
 -- Lines 10, 14 and 15 case by case.
 use Prim.Native.Nat.{ℕ, _+_, _-_, _*_, _/_, _^_}
-use mathlib.Core.Path.{_≡_}
+use mathlib.Core.Path.{_≡_, refl}
 use Rattle.arith.specs.Rounding.{roundDiv}
 use Rattle.arith.specs.Root.{nearestRoot}
 use Rattle.values.specs.declared.Value.{Value}
@@ -30,9 +30,10 @@ pub velocity-no-cp : {cp : Value} (mean : ℕ) (density : Value) → cp ≡ Miss
 unfolding velocity
 velocity-no-cp mean density e = rw e
 
-pub velocity-no-density : {cp density : Value} {k : ℕ} (mean : ℕ) → cp ≡ Known k → density ≡ Missing → velocity cp mean density ≡ Missing
+pub velocity-no-density : {density : Value} (cp : Value) (mean : ℕ) → density ≡ Missing → velocity cp mean density ≡ Missing
 unfolding velocity
-velocity-no-density mean e d = rw (e, d)
+velocity-no-density Missing mean d = refl
+velocity-no-density (Known k) mean d = rw d
 
 pub velocity-known : {cp density : Value} {k q : ℕ} (mean : ℕ) → cp ≡ Known k → density ≡ Known q → velocity cp mean density ≡ Known (roundDiv (8549 * k * mean * q) (10 ^ 11))
 unfolding velocity

@@ -43,7 +43,7 @@ enum-told-2 : tie.Need-enum-told-2
 enum-told-2 c = search needs
 
 returns-2 : tie.Need-returns-2
-returns-2 c = is-unworked (isokinetic-no-velocity _ _ (c .before .before .before .drawn .given .1) (c .enum-told2 .given .1))
+returns-2 c = is-unworked (isokinetic-no-velocity _ _ _ (c .enum-told2 .given .1))
 
 enum-known-area : tie.Need-enum-known-area
 enum-known-area c = search needs
@@ -52,12 +52,10 @@ enum-told-3 : tie.Need-enum-told-3
 enum-told-3 c = search needs
 
 returns-3 : tie.Need-returns-3
-returns-3 c = is-unworked (isokinetic-no-area _ (c .before .before .before .before .before .before .drawn .given .1) (c .before .before .before .velocity .given .1) (c .enum-told3 .given .1))
+returns-3 c = is-unworked (isokinetic-no-area _ _ _ (c .enum-told3 .given .1))
 
 returns-4 : tie.Need-returns-4
-returns-4 c =
-    let speed = c .before .before .before .before .before in
-    is-unworked (isokinetic-still _ (speed .before .before .before .drawn .given .1) (speed .velocity .given .1) (c .before .before .area .given .1) (c .if1 .taken))
+returns-4 c = is-unworked (isokinetic-still _ _ _ (c .before .before .before .before .before .velocity .given .1) (c .if1 .taken))
 
 mul-divide : tie.Need-mul-divide
 mul-divide c = omega (arith, gas-most c)
