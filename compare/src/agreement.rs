@@ -6,7 +6,7 @@ use crate::call::{Outcome, Side, Trial};
 use crate::case::Expected;
 use crate::proved::Proved;
 
-const INDEPENDENT: Side = Side {
+pub const INDEPENDENT: Side = Side {
     reduce: independent::reduce,
     run_count: independent::run_count,
     run_number: independent::run_number,
