@@ -20,7 +20,8 @@ use Rattle.reduction.specs.Reducing.{reducedRun, runNamed}
 use Rattle.reduction.proofs.Naming.{found-inside, named, none-named}
 use Rattle.output.specs.Answers.{packed}
 use Rattle.writing.specs.Bytes.{sheetSize, findingSize}
-use Rattle.runs.specs.Outcomes.{refused, reduced, handed, ofTrouble, outcome, answerOf, linesAfter, findingsAfter}
+use Rattle.handing.specs.Handing.{refused, reduced, handed, answerOf, linesAfter, findingsAfter}
+use Rattle.runs.specs.Outcomes.{ofTrouble, outcome}
 use Rattle.demands.specs.Table.{CallRefused, ofFile, row9, row10}
 use Rattle.demands.specs.Demands.{Call, Promised, RowApplies, RefusedWith, ReducesRun, CameTo, byRow, toRun, Demand1}
 use Rattle.demands.proofs.GoodParts.{clear-job, good-job}

@@ -21,7 +21,7 @@ use Rattle.output.specs.Answers.{packed}
 use Rattle.output.proofs.Records.{record-at}
 use Rattle.writing.specs.Bytes.{findingSize, findingBytes, findingsBytes}
 use Rattle.writing.proofs.Sizes.{finding-length}
-use Rattle.runs.specs.Outcomes.{success}
+use Rattle.handing.specs.Handing.{success}
 use Rattle.demands.specs.Demands.{Call, Promised, Succeeds, bytesOfFinding, FindingsOf, Demand3}
 use Rattle.demands.proofs.GoodParts.{good-job}
 use Rattle.demands.proofs.Succeeding.{Done, done}

@@ -13,7 +13,8 @@ use Rattle.reduction.specs.declared.Which.{Which}
 use Rattle.reduction.specs.declared.Which.the-variants.{Index, NoRun}
 use Rattle.reduction.specs.Reducing.{reducedRun, runNamed}
 use Rattle.reduction.proofs.Naming.{found-inside, named, none-named}
-use Rattle.runs.specs.Outcomes.{refused, handed, ofRun, ofTrouble, outcome}
+use Rattle.handing.specs.Handing.{refused, handed}
+use Rattle.runs.specs.Outcomes.{ofRun, ofTrouble, outcome}
 use Rattle.demands.specs.Demands.{OnlyRun}
 
 module _ (s : List ℕ) (run : ℕ) (clear : jobTrouble s ≡ Clear) where

@@ -32,7 +32,8 @@ use Rattle.output.specs.Answers.{packed}
 use Rattle.output.specs.Bytes.{le, joined}
 use Rattle.output.specs.Splice.{spliced}
 use Rattle.writing.specs.Bytes.{entryBytes, sheetBytes, findingBytes, findingsBytes}
-use Rattle.runs.specs.Outcomes.{handed, outcome, success, answerOf, linesAfter, findingsAfter, countAnswer, numberAnswer}
+use Rattle.handing.specs.Handing.{handed, success, answerOf, linesAfter, findingsAfter}
+use Rattle.runs.specs.Outcomes.{outcome, countAnswer, numberAnswer}
 use Rattle.lines.specs.Starred.{workedLines}
 use Rattle.demands.specs.Starred.{PrintedJob}
 

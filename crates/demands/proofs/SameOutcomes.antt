@@ -5,7 +5,8 @@ use mathlib.Core.List.{List}
 use lib.ListN.{length}
 use Rattle.output.specs.Answers.{packed}
 use Rattle.printing.specs.Printing.{printing, printingAnswer, printingOut}
-use Rattle.runs.specs.Outcomes.{outcome, answerOf, linesAfter, findingsAfter}
+use Rattle.handing.specs.Handing.{answerOf, linesAfter, findingsAfter}
+use Rattle.runs.specs.Outcomes.{outcome}
 use Rattle.leverbonnet.specs.Calls.{Reduces, PrintsText}
 
 pub reduces-same : (s t : List ℕ) {run : ℕ} {linesIn findingsIn linesOut findingsOut : List ℕ} {r : ℕ} → outcome s run (length linesIn) (length findingsIn) ≡ outcome t run (length linesIn) (length findingsIn) → Reduces s run linesIn findingsIn linesOut findingsOut r → Reduces t run linesIn findingsIn linesOut findingsOut r

@@ -14,7 +14,8 @@ use Rattle.job.specs.Places.{runOf}
 use Rattle.job.specs.Troubles.{jobTrouble}
 use Rattle.job.proofs.ClearJobs.{unique}
 use Rattle.reduction.specs.Reducing.{worked, reduction, reducedRun}
-use Rattle.runs.specs.Outcomes.{handed, outcome}
+use Rattle.handing.specs.Handing.{handed}
+use Rattle.runs.specs.Outcomes.{outcome}
 use Rattle.leverbonnet.specs.Calls.{Reduces}
 use Rattle.demands.specs.Demands.{SameRun}
 use Rattle.demands.proofs.NamedRun.{outcome-of-run}

@@ -23,7 +23,8 @@ use Rattle.output.specs.Splice.{spliced}
 use Rattle.writing.specs.Bytes.{lineSize, entryBytes, sheetSize, sheetBytes, findingSize, findingBytes, findingsBytes}
 use Rattle.printing.specs.Printing.{printing, printingAnswer}
 use Rattle.layouts.specs.Outcomes.{roundOutcome, rectangleOutcome, layoutAnswer}
-use Rattle.runs.specs.Outcomes.{outcome, success, answerOf, countAnswer, numberAnswer}
+use Rattle.handing.specs.Handing.{success, answerOf}
+use Rattle.runs.specs.Outcomes.{outcome, countAnswer, numberAnswer}
 use Rattle.leverbonnet.specs.Calls.{Reduces}
 use Rattle.demands.specs.ReadingOrder.{numberOf, GoodJob}
 use Rattle.demands.specs.Table.{CallRefused}

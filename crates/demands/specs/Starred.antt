@@ -17,7 +17,8 @@ use Rattle.job.specs.Worked.{workedJob, workedRead}
 use Rattle.output.specs.Bytes.{le}
 use Rattle.writing.specs.Bytes.{sheetSize, findingSize}
 use Rattle.output.specs.Answers.{packed}
-use Rattle.runs.specs.Outcomes.{outcome, answerOf, linesAfter, findingsAfter}
+use Rattle.handing.specs.Handing.{answerOf, linesAfter, findingsAfter}
+use Rattle.runs.specs.Outcomes.{outcome}
 
 -- a starred value: numbers worked out beside those of the list, a factor, a line 18, the positions of six points, or what a file is read as
 pub data StarredValue : Type 0 where

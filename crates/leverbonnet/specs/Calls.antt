@@ -6,7 +6,8 @@ use lib.ListN.{length}
 use Rattle.output.specs.Answers.{packed}
 use Rattle.printing.specs.Printing.{printing, printingAnswer, printingOut}
 use Rattle.layouts.specs.Outcomes.{LayoutOutcome, layoutAnswer, layoutOut}
-use Rattle.runs.specs.Outcomes.{outcome, answerOf, linesAfter, findingsAfter}
+use Rattle.handing.specs.Handing.{answerOf, linesAfter, findingsAfter}
+use Rattle.runs.specs.Outcomes.{outcome}
 
 -- leverbonnet_reduce: its answer, and every byte of both buffers
 pub record Reduces (s : List ℕ) (run : ℕ) (linesIn findingsIn linesOut findingsOut : List ℕ) (r : ℕ) : Type 0 where

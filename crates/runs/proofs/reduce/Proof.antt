@@ -7,7 +7,8 @@ use Rattle.job.proofs.WholeFile.{header-refuses}
 use Rattle.reduction.specs.Reducing.{ClearRun}
 use Rattle.reduction.proofs.ClearJobs.{read-clear, count-of-runs, found-few, place-fits}
 use Rattle.reduction.proofs.Naming.{found-inside}
-use Rattle.runs.proofs.Outcomes.{came-refused, refused-by-reader, no-run, one-run, came-same}
+use Rattle.handing.proofs.Handing.{came-refused, came-same}
+use Rattle.runs.proofs.Outcomes.{refused-by-reader, no-run, one-run}
 use Rattle.runs.proofs.reduce.Statement.{statement}
 use Rattle.runs.proofs.reduce.Tie as tie
 

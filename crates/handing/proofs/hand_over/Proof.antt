@@ -1,8 +1,8 @@
 -- Two refusals before a byte is written, and the two writes.
 use borrow.Author.Needs.{needs}
-use Rattle.runs.proofs.Outcomes.{came-refused, short-lines, short-findings, came-reduced}
-use Rattle.runs.proofs.hand_over.Statement.{statement}
-use Rattle.runs.proofs.hand_over.Tie as tie
+use Rattle.handing.proofs.Handing.{came-refused, short-lines, short-findings, came-reduced}
+use Rattle.handing.proofs.hand_over.Statement.{statement}
+use Rattle.handing.proofs.hand_over.Tie as tie
 
 returns : tie.Need-returns
 returns c = came-refused 9 0 _ _ (short-lines _ _ _ (c .if1 .taken))

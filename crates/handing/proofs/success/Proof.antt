@@ -1,8 +1,8 @@
 -- By the test.
 use borrow.Author.Needs.{needs}
-use Rattle.runs.specs.Outcomes.{success}
-use Rattle.runs.proofs.success.Statement.{statement}
-use Rattle.runs.proofs.success.Tie as tie
+use Rattle.handing.specs.Handing.{success}
+use Rattle.handing.proofs.success.Statement.{statement}
+use Rattle.handing.proofs.success.Tie as tie
 
 cast-result : tie.Need-cast-result
 cast-result c = search needs

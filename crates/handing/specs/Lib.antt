@@ -1,0 +1,2 @@
+-- What comes of handing a reduced run over.
+pub mod Handing
