@@ -1,6 +1,7 @@
 //! How `./leverbonnet` builds, seen by stand-ins for all that it starts: rt
 //! proves nothing, cargo has its programs ready, and uname names any processor.
 
+use std::collections::BTreeSet;
 use std::fs::{self, File};
 use std::io::Read;
 use std::process::{Command, Stdio};
@@ -131,17 +132,46 @@ impl Workshop {
     }
 }
 
-/// The crates of crates.txt up to this one.
-fn crates_up_to(copy: &Copy, last: &str) -> Vec<String> {
+/// The crates of crates.txt from its top, each with those that it names.
+fn listed(copy: &Copy) -> Vec<(String, Vec<String>)> {
     let text = copy.read("crates.txt");
     let lines = text.lines().filter(|line| !line.starts_with('#'));
-    let mut names: Vec<String> = lines
+    lines
         .filter_map(|line| line.split_once(':'))
-        .map(|(name, _)| name.to_string())
-        .collect();
+        .map(|(name, used)| {
+            let used = used.split_whitespace().map(str::to_string);
+            (name.to_string(), used.collect())
+        })
+        .collect()
+}
+
+/// The crates of crates.txt up to this one.
+fn crates_up_to(copy: &Copy, last: &str) -> Vec<String> {
+    let mut names: Vec<String> = listed(copy).into_iter().map(|(name, _)| name).collect();
     let place = names.iter().position(|name| name == last);
     names.truncate(place.expect("it is listed") + 1);
     names
+}
+
+/// Those of crates.txt that this one rests on, with itself.
+fn rested_on(copy: &Copy, last: &str) -> BTreeSet<String> {
+    let mut needed = BTreeSet::from([last.to_string()]);
+    for (name, used) in listed(copy).into_iter().rev() {
+        if needed.contains(&name) {
+            needed.extend(used);
+        }
+    }
+    let all = listed(copy).into_iter().map(|(name, _)| name);
+    all.filter(|name| needed.contains(name)).collect()
+}
+
+#[test]
+fn what_is_counted_is_what_is_proved() {
+    let copy = Copy::new();
+    for last in ["leverbonnet", "calls"] {
+        let counted: BTreeSet<String> = crates_up_to(&copy, last).into_iter().collect();
+        assert_eq!(counted, rested_on(&copy, last), "{last}");
+    }
 }
 
 #[test]
