@@ -1,8 +1,8 @@
 -- The comparison of a quotient and its remainder with a limit and 0 comes out as that of the dividend with so many times the divisor.
-use Prim.Native.Nat.{ℕ, _+_, _*_, _/_, _%_, _≤_, _<_}
+use Prim.Native.Nat.{ℕ, _+_, _*_, _≤_, _<_}
 use mathlib.Core.Path.{_≡_, sym, _∙_, ap}
 use mathlib.Core.Bool.{not}
-use native.Mathlib.Nat.{mul-le-mul-right, div-add-mod', mod-lt, add-mul}
+use native.Mathlib.Nat.{mul-le-mul-right, add-mul}
 use native.Mathlib.Decide.{decLt}
 use native.Mathlib.Omega.{arith}
 use borrow.Author.Tests.{lt-ltb, le-ltb, eq-eqb, ne-eqb}
@@ -30,39 +30,30 @@ higher Above a b h = lt-ltb b a h
 higher Same a b h = ne-eqb a b (omega arith)
 higher Differs a b h = ap not (ne-eqb a b (omega arith))
 
--- for a dividend n and a divisor d, whichever way
-pub exactly : (way : Way) (n d limit : ℕ) → 0 < d → holds (deciding (compareExactly (n / d) (n % d) way limit)) ≡ standsTo way n (limit * d)
+-- for a dividend n that is q times the divisor d and r more, r below d, whichever way
+pub exactly : (way : Way) (n d q r limit : ℕ) → q * d + r ≡ n → r < d → holds (deciding (compareExactly q r way limit)) ≡ standsTo way n (limit * d)
 unfolding holds deciding
-exactly way n d limit some = go (decLt q limit) (decLt limit q)
+exactly way n d q r limit parts rest = go (decLt q limit) (decLt limit q)
   where
-    q : ℕ
-    q = n / d
-
-    parts : q * d + n % d ≡ n
-    parts = div-add-mod' n d
-
-    rest : n % d < d
-    rest = mod-lt n some
-
     -- a higher number of divisors is a whole divisor more, at least
     within : {a b : ℕ} → a < b → a * d + d ≤ b * d
     within {a} {b} h =
         let next : a + 1 ≤ b = omega arith in
         omega (arith, mul-le-mul-right d next, add-mul a 1 d)
 
-    by-remainder : q ≡ limit → Dec (0 < n % d) → standsTo way (n % d) 0 ≡ standsTo way n (limit * d)
+    by-remainder : q ≡ limit → Dec (0 < r) → standsTo way r 0 ≡ standsTo way n (limit * d)
     by-remainder is (yes more) =
         let same : q * d ≡ limit * d = ap (λ k. k * d) is in
-        higher way (n % d) 0 more ∙ sym (higher way n (limit * d) (omega (arith, parts)))
+        higher way r 0 more ∙ sym (higher way n (limit * d) (omega (arith, parts)))
     by-remainder is (no none) =
         let same : q * d ≡ limit * d = ap (λ k. k * d) is in
-        level way (n % d) 0 (omega (arith, none)) ∙ sym (level way n (limit * d) (omega (arith, none, parts)))
+        level way r 0 (omega (arith, none)) ∙ sym (level way n (limit * d) (omega (arith, none, parts)))
 
-    go : Dec (q < limit) → Dec (limit < q) → holds (deciding (compareExactly q (n % d) way limit)) ≡ standsTo way n (limit * d)
+    go : Dec (q < limit) → Dec (limit < q) → holds (deciding (compareExactly q r way limit)) ≡ standsTo way n (limit * d)
     go (yes low) high =
         rw (ne-eqb q limit (omega arith)) (lower way q limit low ∙ sym (lower way n (limit * d) (omega (arith, within low, parts, rest))))
     go (no f) (yes high) =
         rw (ne-eqb q limit (omega arith)) (higher way q limit high ∙ sym (higher way n (limit * d) (omega (arith, within high, parts))))
     go (no f) (no g) =
         let is : q ≡ limit = omega (arith, f, g) in
-        rw (eq-eqb q limit is) (by-remainder is (decLt 0 (n % d)))
+        rw (eq-eqb q limit is) (by-remainder is (decLt 0 r))
