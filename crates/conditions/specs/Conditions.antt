@@ -1,6 +1,7 @@
 -- What each rule of docs/RULES.md goes by, but for 7 to 9, which are about the site.
 use Prim.Native.Nat.{ℕ, _-_, _*_, min, max}
-use lib.IntN.{ℤ, pos}
+use lib.IntN.{ℤ, pos, negsuc, subℕ}
+use Rattle.records.specs.declared.Weighing.{Weighing}
 use Rattle.values.specs.declared.Ratio.{Ratio}
 use Rattle.values.specs.declared.Ratio.the-variants.{Exact, Unworked}
 use Rattle.values.specs.declared.Value.{Value}
@@ -77,13 +78,26 @@ leastIsokinetic = 9000
 abbrev pub greatestIsokinetic : ℕ
 greatestIsokinetic = 11000
 
--- how far two final weights may differ, 0.1 mg
+-- how far apart a weighing's two final weights are, 0.1 mg
+abbrev pub difference : Weighing → ℕ
+difference w = apart (w .first) (w .second)
+
+-- how far apart they may be whatever the net is
 abbrev pub greatestDifference : ℕ
 greatestDifference = 5
 
--- 17: a weighing whose final weights differ by over that
+-- the net: the second final weight less the tare, 0.1 mg
+abbrev pub net : Weighing → ℤ
+net w = subℕ (w .second) (w .tare)
+
+-- the larger of 500 and a net; of a negative one, 500
+unfoldable pub steadyLimit : ℤ → ℕ
+steadyLimit (pos n) = max (100 * greatestDifference) n
+steadyLimit (negsuc n) = 100 * greatestDifference
+
+-- 17: a weighing of which 100 times the difference is above the larger of 500 and the net
 unfoldable pub unsteady : Part → Ground
-unsteady (OneWeighing w) = Compared (compare (apart (w .first) (w .second)) Above greatestDifference)
+unsteady (OneWeighing w) = Compared (compare (100 * difference w) Above (steadyLimit (net w)))
 unsteady Whole = Silent
 unsteady (OnePoint p) = Silent
 unsteady (OneSegment s) = Silent

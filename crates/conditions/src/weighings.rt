@@ -1,6 +1,8 @@
 // Rules 17 to 20: the weighings and what they catch.
 
 use crate::Part;
+use arith::larger;
+use arith::less;
 use grounds::Ground;
 use grounds::comparison::Comparison;
 use grounds::comparison::Way;
@@ -8,20 +10,26 @@ use grounds::comparison::apart;
 ghost use mathlib.Core.Path.{_≡_};
 ghost use Rattle.conditions.specs.Conditions.{unsteady, lacking, negative};
 
-// How far two final weights may differ, 0.1 mg.
+// How far two final weights may differ whatever was gained, 0.1 mg.
 const GREATEST_DIFFERENCE: u64 = 5;
 
-// Rule 17: a weighing whose two final weights differ by too much.
+// A difference is 1 percent of what it equals so many times over.
+const HUNDREDFOLD: u64 = 100;
+
+// Rule 17: a weighing whose two final weights differ by more than 0.5 mg and by more than 1 percent of the net. One
+// comparison: a net that is negative counts as 0, so that the 0.5 mg are all that counts.
 pub fn unsteady(part: Part) -> Ground
     ensures { λ r. ⌜ r ≡ unsteady part ⌝ }
 {
     let Part::OneWeighing(weighing) = part else {
         return Ground::Silent;
     };
+    let difference = apart(weighing.first as u64, weighing.second as u64);
+    let net = less(weighing.second as u64, weighing.tare as u64);
     Ground::Compared(Comparison {
-        left: apart(weighing.first as u64, weighing.second as u64),
+        left: HUNDREDFOLD * difference,
         way: Way::Above,
-        right: GREATEST_DIFFERENCE,
+        right: larger(HUNDREDFOLD * GREATEST_DIFFERENCE, net),
     })
 }
 

@@ -14,6 +14,7 @@ pub mod SameOutcomes
 pub mod TwoJobs
 pub mod Thirteen
 pub mod Percent
+pub mod Weighings
 pub mod MostReached
 pub mod Fronts
 pub mod Beyond

@@ -23,7 +23,7 @@ use Rattle.grounds.specs.Comparing.{holds, apart}
 use Rattle.certs.specs.Factor.{factorOf, coefficientOf, diametersOf}
 use Rattle.grounds.specs.Grounds.{broken}
 use Rattle.site.specs.Site.{diameter, halfDiameter, undisturbed, minimumPoints, nextAllowed}
-use Rattle.conditions.specs.Conditions.{missing, moved, uneven, short, leaking, lineAgainst, ratioAgainst, unsteady}
+use Rattle.conditions.specs.Conditions.{missing, moved, uneven, short, leaking, lineAgainst, ratioAgainst, steadyLimit, unsteady}
 use Rattle.rules.specs.Rules.{table, groundOf, placesOf}
 use Rattle.findings.specs.Listing.{partOf, ofKind, besideOf, brokenAt, ruleFindings, findingsTo, findings, linesFor, findingsFor, mostFindings}
 
@@ -103,7 +103,7 @@ full-in-range =
     }
 
 full-findings : length (findingsFor fullRun noCertificates) ≡ mostFindings
-unfolding fullRun point segment filter noCertificates findingsFor linesFor findings findingsTo ruleFindings brokenAt broken partOf besideOf table groundOf placesOf missing moved uneven diameter halfDiameter undisturbed minimumPoints nextOf nextGrid nextAllowed short leaking lineAgainst ratioAgainst unsteady ofKind holds apart factorOf coefficientOf diametersOf lines metering stack sampling time meteredVolume allowance leakLoss leakLosses correctedVolume dryVolume moisture wetWeight densityRoot velocity drawnGas isokinetic finalWeights tares catch deduction roundDiv unlessZero sumTo
+unfolding fullRun point segment filter noCertificates findingsFor linesFor findings findingsTo ruleFindings brokenAt broken partOf besideOf table groundOf placesOf missing moved uneven diameter halfDiameter undisturbed minimumPoints nextOf nextGrid nextAllowed short leaking lineAgainst ratioAgainst steadyLimit unsteady ofKind holds apart factorOf coefficientOf diametersOf lines metering stack sampling time meteredVolume allowance leakLoss leakLosses correctedVolume dryVolume moisture wetWeight densityRoot velocity drawnGas isokinetic finalWeights tares catch deduction roundDiv unlessZero sumTo
 full-findings = refl
 
 -- Some run in range has 98

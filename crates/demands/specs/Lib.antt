@@ -3,6 +3,7 @@ pub mod ReadingOrder
 pub mod Table
 pub mod Equations
 pub mod Percent
+pub mod Weighings
 pub mod Demands
 pub mod Front
 pub mod Starred

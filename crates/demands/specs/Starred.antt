@@ -4,7 +4,7 @@ use mathlib.Core.Path.{_≡_}
 use mathlib.Core.List.{List, [], _∷_, _++_, map}
 use lib.ListN.{replicate}
 use Rattle.lines.specs.Starred.{Example, roots, leak, workedLines}
-use Rattle.rules.specs.Starred.{StarredFactor, starredFactors, FactorStands, StarredIsokinetic, starredIsokinetic, IsokineticStands}
+use Rattle.rules.specs.Starred.{StarredFactor, starredFactors, FactorStands, StarredIsokinetic, starredIsokinetic, IsokineticStands, StarredWeighing, starredWeighings, WeighingStands}
 use Rattle.traverse.specs.Positions.{position, starredPositions}
 use Rattle.records.specs.declared.Certificate.{Certificate}
 use Rattle.records.specs.declared.Run.{Run}
@@ -20,11 +20,12 @@ use Rattle.output.specs.Answers.{packed}
 use Rattle.handing.specs.Handing.{answerOf, linesAfter, findingsAfter}
 use Rattle.runs.specs.Outcomes.{outcome}
 
--- a starred value: numbers worked out beside those of the list, a factor, a line 18, the positions of six points, or what a file is read as
+-- a starred value: numbers worked out beside those of the list, a factor, a line 18, a weighing, the positions of six points, or what a file is read as
 pub data StarredValue : Type 0 where
   ofNumbers : Example → StarredValue
   ofFactor : StarredFactor → StarredValue
   ofPercent : StarredIsokinetic → StarredValue
+  ofWeighing : StarredWeighing → StarredValue
   ofPositions : List ℕ → StarredValue
   ofReading : List ℕ → Job → List Certificate → Run → StarredValue
 
@@ -33,17 +34,19 @@ abbrev pub Stands : StarredValue → Type 0
 Stands (ofNumbers e) = e .worked ≡ e .expected
 Stands (ofFactor f) = FactorStands f
 Stands (ofPercent p) = IsokineticStands p
+Stands (ofWeighing w) = WeighingStands w
 Stands (ofPositions ps) = map (position 6) (1 ∷ 2 ∷ 3 ∷ 4 ∷ 5 ∷ 6 ∷ []) ≡ ps
 Stands (ofReading file job certificates run) =
     (readJob file ≡ job) × (map (certificateOf file) (0 ∷ 1 ∷ 2 ∷ 3 ∷ []) ≡ certificates) × (runOf file 0 ≡ run)
 
--- roots, leak and the worked job's lines; the factor moved and not moved; line 18 on either side; the positions; the worked job's file
+-- roots, leak and the worked job's lines; the factor moved and not moved; line 18 and weighings on either side; the positions; the worked job's file
 abbrev pub starred : List StarredValue
 starred =
     map ofNumbers (roots ∷ leak ∷ workedLines ∷ [])
     ++ (map ofFactor starredFactors
     ++ (map ofPercent starredIsokinetic
-    ++ (ofPositions starredPositions ∷ ofReading workedJob workedRead workedCertificates workedRun ∷ [])))
+    ++ (map ofWeighing starredWeighings
+    ++ (ofPositions starredPositions ∷ ofReading workedJob workedRead workedCertificates workedRun ∷ []))))
 
 -- lines that are present, as bytes
 abbrev pub presentBytes : List ℕ → List ℕ

@@ -1,16 +1,16 @@
 -- The starred values, each by computation, and how lists of them are put together.
-use Prim.Native.Nat.{ℕ}
+use Prim.Native.Nat.{ℕ, _*_}
 use mathlib.Core.Path.{_≡_, refl}
 use mathlib.Core.List.{List, [], _∷_, _++_, map}
 use native.Mathlib.Omega.{arith}
 use borrow.Author.Tests.{le-ltb}
 use Rattle.grounds.specs.declared.comparison.Way.the-variants.{Below, Above}
-use Rattle.grounds.specs.Comparing.{holds, deciding, compareExactly, apart}
+use Rattle.grounds.specs.Comparing.{holds, compare, deciding, compareExactly, apart}
 use Rattle.certs.specs.Factor.{factorMoved, factor, factorOf}
 use Rattle.grounds.specs.Grounds.{broken}
-use Rattle.conditions.specs.Conditions.{moved, ratioAgainst, leastIsokinetic, greatestIsokinetic}
+use Rattle.conditions.specs.Conditions.{moved, ratioAgainst, leastIsokinetic, greatestIsokinetic, steadyLimit, unsteady}
 use Rattle.rules.specs.Rules.{table, groundOf}
-use Rattle.rules.specs.Starred.{Each, StarredFactor, starredFactors, FactorStands, Such, StarredIsokinetic, starredIsokinetic, IsokineticStands}
+use Rattle.rules.specs.Starred.{Each, StarredFactor, starredFactors, FactorStands, Such, StarredIsokinetic, starredIsokinetic, IsokineticStands, StarredWeighing, starredWeighings, WeighingStands}
 
 -- a starred factor stands where the two factors alone give the note and Y
 factor-stands : (s : StarredFactor) → holds (factorMoved (s .before) (s .after)) ≡ s .note → factor (s .before) (s .after) ≡ s .y → FactorStands s
@@ -55,12 +55,27 @@ isokinetic-stands s alone part b n exact quotient such = (
   rw (exact, quotient) (alone (n .remainder) such .1),
 )
 
+-- what holds of each, and gives something else, gives that of each
+each : {A : Type 0} {P Q : A → Type 0} → ((x : A) → P x → Q x) → (xs : List A) → Each P xs → Each Q xs
+each f [] none = tt
+each f (x ∷ xs) (first, rest) = (f x first, each f xs rest)
+
 pub starred-isokinetic : Each IsokineticStands starredIsokinetic
 starred-isokinetic = each isokinetic-stands starredIsokinetic faults
-  where
-    each : {A : Type 0} {P Q : A → Type 0} → ((x : A) → P x → Q x) → (xs : List A) → Each P xs → Each Q xs
-    each f [] none = tt
-    each f (x ∷ xs) (first, rest) = (f x first, each f xs rest)
+
+-- the difference and the net alone give the fault
+abbrev Fault : StarredWeighing → Type 0
+Fault s = holds (compare (100 * s .difference) Above (steadyLimit (s .net))) ≡ s .seventeen
+
+weighing-stands : (s : StarredWeighing) → Fault s → WeighingStands s
+unfolding broken unsteady table groundOf
+weighing-stands s alone b w apart gained = rw (apart, gained) alone
+
+pub starred-weighings : Each WeighingStands starredWeighings
+unfolding starredWeighings holds steadyLimit
+starred-weighings =
+    each weighing-stands starredWeighings
+    (refl, (refl, (refl, (refl, (refl, (refl, (refl, (refl, (refl, (refl, (refl, (refl, (refl, (refl, (refl, (refl, tt))))))))))))))))
 
 -- what holds of whatever f makes of each, and of each of the rest, holds of each of both together
 pub each-mapped : {A B : Type 0} (P : B → Type 0) (f : A → B) (xs : List A) (ys : List B) → Each (λ x. P (f x)) xs → Each P ys → Each P (map f xs ++ ys)

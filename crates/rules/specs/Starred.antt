@@ -3,13 +3,17 @@ use Prim.Native.Nat.{ℕ}
 use mathlib.Core.Path.{_≡_}
 use mathlib.Core.Bool.{Bool, true, false}
 use mathlib.Core.List.{List, [], _∷_}
+use lib.IntN.{ℤ, pos, negℤ}
 use Rattle.arith.specs.declared.Division.{Division}
 use Rattle.records.specs.declared.Certificate.{Certificate}
+use Rattle.records.specs.declared.Weighing.{Weighing}
 use Rattle.values.specs.declared.Ratio.the-variants.{Exact}
 use Rattle.values.specs.declared.Value.the-variants.{Known}
 use Rattle.certs.specs.declared.Lookup.the-variants.{Found}
 use Rattle.certs.specs.Factor.{factorOf}
 use Rattle.conditions.specs.declared.Part.{Part}
+use Rattle.conditions.specs.declared.Part.the-variants.{OneWeighing}
+use Rattle.conditions.specs.Conditions.{difference, net}
 use Rattle.rules.specs.declared.Beside.{Beside}
 use Rattle.grounds.specs.Grounds.{broken}
 use Rattle.rules.specs.Rules.{groundOf}
@@ -79,3 +83,37 @@ IsokineticStands s =
     → n .quotient ≡ s .quotient
     → Such (s .remainder) (n .remainder)
     → (broken (groundOf part b 15) ≡ s .fifteen) × (broken (groundOf part b 16) ≡ s .sixteen)
+
+-- a weighing's difference and net; whether there is a fault 17
+pub record StarredWeighing : Type 0 where
+  pub difference : ℕ
+  pub net : ℤ
+  pub seventeen : Bool
+
+unfoldable pub starredWeighings : List StarredWeighing
+starredWeighings =
+    record { difference = 5; net = negℤ (pos 600); seventeen = false }
+    ∷ record { difference = 5; net = negℤ (pos 1); seventeen = false }
+    ∷ record { difference = 5; net = pos 0; seventeen = false }
+    ∷ record { difference = 5; net = pos 500; seventeen = false }
+    ∷ record { difference = 5; net = pos 599; seventeen = false }
+    ∷ record { difference = 5; net = pos 600; seventeen = false }
+    ∷ record { difference = 5; net = pos 601; seventeen = false }
+    ∷ record { difference = 6; net = negℤ (pos 600); seventeen = true }
+    ∷ record { difference = 6; net = negℤ (pos 1); seventeen = true }
+    ∷ record { difference = 6; net = pos 0; seventeen = true }
+    ∷ record { difference = 6; net = pos 500; seventeen = true }
+    ∷ record { difference = 6; net = pos 599; seventeen = true }
+    ∷ record { difference = 6; net = pos 600; seventeen = false }
+    ∷ record { difference = 6; net = pos 601; seventeen = false }
+    ∷ record { difference = 900; net = pos 90000; seventeen = false }
+    ∷ record { difference = 901; net = pos 90000; seventeen = true }
+    ∷ []
+
+-- whatever stands beside it, a weighing of that difference and net gives the fault, or none
+abbrev pub WeighingStands : StarredWeighing → Type 0
+WeighingStands s =
+    (b : Beside) (w : Weighing)
+    → difference w ≡ s .difference
+    → net w ≡ s .net
+    → broken (groundOf (OneWeighing w) b 17) ≡ s .seventeen
