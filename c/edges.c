@@ -122,7 +122,9 @@ static void finding_must_read(unsigned rule, int fault, unsigned place, const ch
 static void findings_in_words(void)
 {
     finding_must_read(11, 0, 1, "Note 11, segment 1: the leak rate is above the allowance.");
-    finding_must_read(17, 1, 8, "Fault 17, weighing 8: the two final weights differ by more than 0.5 mg.");
+    finding_must_read(17, 1, 8,
+                      "Fault 17, weighing 8: the two final weights differ by more than 0.5 mg and more than 1 percent of the "
+                      "net weight.");
     finding_must_read(18, 1, 0, "Fault 18: no filter was weighed.");
     finding_must_read(13, 1, 0, "Fault 13: no rule has that number.");
     finding_must_read(255, 1, 3, "Fault 255, place 3: no rule has that number.");

@@ -61,7 +61,7 @@ static const struct {
     {14, "the velocity, line 15, is 0", ""},
     {15, "the percent isokinetic, line 18 before it is rounded, is below 90 percent", ""},
     {16, "the percent isokinetic, line 18 before it is rounded, is above 110 percent", ""},
-    {17, "the two final weights differ by more than 0.5 mg", "weighing"},
+    {17, "the two final weights differ by more than 0.5 mg and more than 1 percent of the net weight", "weighing"},
     {18, "no filter was weighed", ""},
     {19, "no rinse was weighed", ""},
     {20, "the catch, line 19, is negative", ""},

@@ -2,7 +2,7 @@
 
 use crate::certificates::Chosen;
 use crate::diameter::{Diameter, GREATEST_SMALL_DIAMETER, LEAST_DIAMETER};
-use crate::job::{Run, Shape, WeighingKind};
+use crate::job::{Run, Shape, Weighing, WeighingKind};
 use crate::layout::grid;
 use crate::leak;
 use crate::lines::Lines;
@@ -19,8 +19,9 @@ const SHORTEST_POINT: u16 = 120;
 /// The widest spread of a nozzle's diameters, 0.001 in.
 const WIDEST_NOZZLE_SPREAD: u16 = 4;
 
-/// The widest difference of two final weights, 0.1 mg.
-const WIDEST_WEIGHT_DIFFERENCE: u32 = 5;
+/// The widest difference of two final weights that is let pass whatever they
+/// weigh, 0.1 mg.
+const WIDEST_WEIGHT_DIFFERENCE: i64 = 5;
 
 /// Percent isokinetic, 0.01 percent: judged before it is rounded.
 const LEAST_ISOKINETIC: i64 = 9_000;
@@ -150,10 +151,15 @@ fn volume_findings(list: &mut List, lines: &Lines) {
     );
 }
 
+/// Constant weight is a difference of no more than 0.5 mg or 1 percent of the
+/// net, whichever is greater.
+fn is_unsteady(weighing: &Weighing) -> bool {
+    let [difference, net] = [weighing.difference(), weighing.net()];
+    difference > WIDEST_WEIGHT_DIFFERENCE && 100 * difference > net
+}
+
 fn weighing_findings(list: &mut List, run: &Run, lines: &Lines) {
-    list.each(17, &run.weighings, |weighing| {
-        weighing.first_final.abs_diff(weighing.second_final) > WIDEST_WEIGHT_DIFFERENCE
-    });
+    list.each(17, &run.weighings, is_unsteady);
     let none_of = |kind: WeighingKind| run.weighings.iter().all(|one| one.kind != kind);
     list.whole_run(18, none_of(WeighingKind::Filter));
     list.whole_run(19, none_of(WeighingKind::Rinse));

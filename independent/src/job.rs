@@ -125,6 +125,18 @@ pub struct Weighing {
     pub second_final: u32,
 }
 
+impl Weighing {
+    /// How far apart the two final weights are.
+    pub fn difference(&self) -> i64 {
+        (i64::from(self.first_final) - i64::from(self.second_final)).abs()
+    }
+
+    /// The second final weight less the tare: below 0 for what lost weight.
+    pub fn net(&self) -> i64 {
+        i64::from(self.second_final) - i64::from(self.tare)
+    }
+}
+
 impl Job {
     pub fn bytes(&self) -> Vec<u8> {
         let mut bytes = Vec::new();

@@ -1,5 +1,6 @@
 //! Jobs worth showing: the worked job of docs/RULES.md, one of several runs, one at the
-//! limits of the percent isokinetic, one that is refused, and the longest a file can hold.
+//! limits of the percent isokinetic, one at those of a weighing, one that is refused,
+//! and the longest a file can hold.
 
 use crate::job::*;
 
@@ -275,6 +276,43 @@ fn sampled(number: u16, velocity_head: u16, metered: u32) -> Run {
         seconds: 5_000,
         leak: 0,
     };
+    run
+}
+
+/// Six runs at the limits of a weighing. The first final weight is the higher one in
+/// each, so that a net taken from it would let pass what must not.
+pub fn weighing_limits() -> Job {
+    let mut job = worked();
+    job.runs = vec![
+        weighed(1, 600, 6),
+        weighed(2, 599, 6),
+        weighed(3, 90_000, 900),
+        weighed(4, 90_000, 901),
+        weighed(5, -600, 5),
+        weighed(6, -600, 6),
+    ];
+    job
+}
+
+/// The worked run, tight, with a filter of that net whose final weights are that far
+/// apart, and a rinse that outweighs what a filter lost.
+fn weighed(number: u16, net: i32, difference: u32) -> Run {
+    let tare = 4_000;
+    let second_final = (tare as i32 + net) as u32;
+    let mut run = Run {
+        number,
+        weighings: vec![
+            weighing(
+                WeighingKind::Filter,
+                tare,
+                second_final + difference,
+                second_final,
+            ),
+            weighing(WeighingKind::Rinse, 1_000_000, 1_001_000, 1_001_000),
+        ],
+        ..worked_run()
+    };
+    run.segments[0].leak = 0;
     run
 }
 

@@ -1,7 +1,7 @@
 //! Values on either side of each limit.
 
 use independent::job::{Certificate, Job, Point, Run, Segment, Shape, WeighingKind};
-use independent::{samples, work, Worked};
+use independent::{samples, work, Finding, Worked};
 
 fn worked_with(change: impl Fn(&mut Job)) -> Worked {
     let mut job = samples::worked();
@@ -257,14 +257,60 @@ fn no_velocity() {
     );
 }
 
-#[test]
-fn weighings() {
-    let worked = run_with(|run| {
-        run.weighings[0].first_final = 4_916;
-        run.weighings[1].first_final = 1_000_145;
+/// Whether a weighing with that difference and that net is found unsteady, with its
+/// first final weight the higher one or the lower.
+fn unsteady(difference: u32, net: i32) -> bool {
+    let tare = 100_000;
+    let second = (tare as i32 + net) as u32;
+    let [higher, lower] = [second + difference, second - difference].map(|first| {
+        let worked = run_with(|run| {
+            run.weighings[1].tare = tare;
+            run.weighings[1].first_final = first;
+            run.weighings[1].second_final = second;
+        });
+        places(&worked, 17)
     });
-    assert_eq!(places(&worked, 17), [1]);
+    assert_eq!(higher, lower);
+    assert!(higher.is_empty() || higher == [2]);
+    !higher.is_empty()
+}
 
+#[test]
+fn final_weights_about_half_a_milligram_apart() {
+    let nets = [-600, -1, 0, 500, 599, 600, 601];
+    let of_5 = nets.map(|net| unsteady(5, net));
+    let of_6 = nets.map(|net| unsteady(6, net));
+    assert_eq!(of_5, [false; 7]);
+    assert_eq!(of_6, [true, true, true, true, true, false, false]);
+}
+
+#[test]
+fn final_weights_about_one_percent_of_the_net_apart() {
+    let differences = [899, 900, 901];
+    assert_eq!(
+        differences.map(|one| unsteady(one, 90_000)),
+        [false, false, true]
+    );
+    assert_eq!(
+        differences.map(|one| unsteady(one, 89_999)),
+        [false, true, true]
+    );
+}
+
+#[test]
+fn weighing_limits() {
+    let job = samples::weighing_limits();
+    let runs = job.runs.iter();
+    let found: Vec<_> = runs
+        .map(|run| work(run, &job.certificates).findings)
+        .collect();
+    let unsteady = [Finding { rule: 17, place: 1 }];
+    let expected: [&[Finding]; 6] = [&[], &unsteady, &[], &unsteady, &[], &unsteady];
+    assert_eq!(found, expected);
+}
+
+#[test]
+fn filters_and_rinses() {
     let one_kind = |kind: WeighingKind| {
         let worked = run_with(|run| run.weighings.retain(|one| one.kind == kind));
         (found(&worked, 18), found(&worked, 19))

@@ -34,6 +34,12 @@ fn examples_are_current() {
         example!("percent-limits.txt"),
     );
     check(
+        "weighing-limits",
+        &samples::weighing_limits(),
+        example!("weighing-limits.job"),
+        example!("weighing-limits.txt"),
+    );
+    check(
         "refused",
         &samples::refused(),
         example!("refused.job"),

@@ -91,7 +91,7 @@ pub const RULES: &[RuleText] = &[
     a_rule(14, "", "the velocity, line 15, is 0"),
     a_rule(15, "", "the percent isokinetic, line 18 before it is rounded, is below 90 percent"),
     a_rule(16, "", "the percent isokinetic, line 18 before it is rounded, is above 110 percent"),
-    a_rule(17, "weighing", "the two final weights differ by more than 0.5 mg"),
+    a_rule(17, "weighing", "the two final weights differ by more than 0.5 mg and more than 1 percent of the net weight"),
     a_rule(18, "", "no filter was weighed"),
     a_rule(19, "", "no rinse was weighed"),
     a_rule(20, "", "the catch, line 19, is negative"),

@@ -29,7 +29,12 @@ fn assert_ended(output: &Output, status: i32, out: &str, told: &str) {
 
 #[test]
 fn a_job_that_is_read_is_printed_in_words() {
-    for name in ["worked", "several-runs", "percent-limits"] {
+    for name in [
+        "worked",
+        "several-runs",
+        "percent-limits",
+        "weighing-limits",
+    ] {
         let job = example(&format!("{name}.job"));
         let words = fs::read_to_string(example(&format!("{name}.words"))).expect("it is there");
         assert_ended(&ended(program().arg(&job)), 0, &words, "");

@@ -102,7 +102,7 @@ fn a_finding_is_a_sentence_that_names_its_place() {
         ),
         (
             finding(17, Class::Fault, 8),
-            "Fault 17, weighing 8: the two final weights differ by more than 0.5 mg.",
+            "Fault 17, weighing 8: the two final weights differ by more than 0.5 mg and more than 1 percent of the net weight.",
         ),
         (
             finding(5, Class::Note, 0),

@@ -13,7 +13,13 @@ fn in_words(words: &[&str]) -> Ended {
 /// and nothing else changed.
 #[test]
 fn the_words_hold_the_values_of_the_plain_sheet() {
-    for job in ["worked", "several-runs", "percent-limits", "longest"] {
+    for job in [
+        "worked",
+        "several-runs",
+        "percent-limits",
+        "weighing-limits",
+        "longest",
+    ] {
         let file = format!("examples/{job}.job");
         let plain = ended(&mut leverbonnet(&["sheet", &file])).out;
         let words = in_words(&[&file]).out;

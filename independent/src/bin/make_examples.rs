@@ -12,6 +12,7 @@ fn main() -> io::Result<()> {
     write_with_sheet(folder, "worked", &samples::worked())?;
     write_with_sheet(folder, "several-runs", &samples::several_runs())?;
     write_with_sheet(folder, "percent-limits", &samples::percent_limits())?;
+    write_with_sheet(folder, "weighing-limits", &samples::weighing_limits())?;
     write_with_sheet(folder, "refused", &samples::refused())?;
     fs::write(folder.join("longest.job"), samples::longest().bytes())
 }
