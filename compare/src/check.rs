@@ -42,10 +42,11 @@ pub fn library(proved: &Proved, job: &[u8], tally: &mut Tally) -> Result<u32, Di
         .iter()
         .map(|&run| reduce(run, ROOMY_LINES, ROOMY_FINDINGS))
         .collect();
+    let runs = independent::read(job).map_or(Vec::new(), |job| job.runs);
     let mut others = Vec::new();
-    for (&run, reduced) in numbers.iter().zip(agreed(&roomy)?) {
-        tally.count_reduced(&reduced);
-        others.extend(about_need(run, FINDING_LENGTH * reduced.findings()));
+    for (run, reduced) in runs.iter().zip(agreed(&roomy)?) {
+        tally.count_reduced(run, &reduced);
+        others.extend(about_need(run.number, FINDING_LENGTH * reduced.findings()));
     }
     let next = numbers.last().map_or(7, |last| last + 1);
     others.extend([0, next, u16::MAX].map(|absent| reduce(absent, 0, ROOMY_FINDINGS)));

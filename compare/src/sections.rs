@@ -60,6 +60,7 @@ fn read_jobs(proved: &Proved) -> Result<Half, Failure> {
         cases::worked::whole(),
         cases::worked::thinnest(),
         cases::worked::at_percent_limits(),
+        cases::worked::at_weighing_limits(),
     ]
     .into_iter()
     .chain(cases::worked::truncations())

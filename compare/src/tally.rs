@@ -1,9 +1,15 @@
 //! Counts what the compared jobs reached: verdicts, rules, absent lines for each
-//! of their causes, refusals. A comparison that reached too little is no proof.
+//! of their causes, both sides of limits, refusals. A comparison that reached too
+//! little is no proof.
+
+mod edges;
 
 use std::fmt;
 
+use independent::job::Run;
+
 use crate::call::{Outcome, FINDING_LENGTH, LINES_LENGTH, LINE_COUNT, LINE_LENGTH};
+use edges::{Reduced, EDGES};
 
 /// The rules that there are: none has the number 13.
 const RULES: [usize; 19] = [
@@ -26,21 +32,6 @@ const ABSENCES: [(usize, &[u8]); 9] = [
     (20, &[1, 12, 20]),
 ];
 
-/// Line 13 where every head is 0.01 in water: a stack that is as slow as that,
-/// or slower, is one that the root's fifth place was asked for.
-const SLOW_ROOT: i64 = 10_000;
-
-/// Line 18 as it is written at a limit and next to it, the rule that judges it
-/// before it is rounded, and whether that rule is broken.
-const ISOKINETIC_SIDES: [(i64, u8, bool); 6] = [
-    (8_999, 15, true),
-    (9_000, 15, true),
-    (9_000, 15, false),
-    (11_000, 16, false),
-    (11_000, 16, true),
-    (11_001, 16, true),
-];
-
 #[derive(Default)]
 pub struct Tally {
     pub jobs: u64,
@@ -52,11 +43,7 @@ pub struct Tally {
     rules: [u64; LAST_RULE + 1],
     /// By line, then by the rule that was its only cause.
     absences: [[u64; LAST_RULE + 1]; LINE_COUNT + 1],
-    /// Runs whose line 6 is the least that it can be, 1.
-    least_volumes: u64,
-    /// Runs in a slow stack.
-    slow_stacks: u64,
-    isokinetic_sides: [u64; ISOKINETIC_SIDES.len()],
+    edges: [u64; EDGES.len()],
     refusals: [u64; REFUSALS + 1],
 }
 
@@ -71,48 +58,33 @@ impl Tally {
         self.texts += u64::from(outcome.refusal() == 0);
     }
 
-    /// Counts a successful reduce's verdict, findings and absent lines too.
-    pub fn count_reduced(&mut self, outcome: &Outcome) {
+    /// Counts a successful reduce's verdict, findings, absent lines and edges too.
+    pub fn count_reduced(&mut self, run: &Run, outcome: &Outcome) {
         self.count(outcome);
         if outcome.refusal() != 0 {
             return;
         }
-        let rules = self.count_findings(outcome);
-        let lines: Vec<Option<i64>> = outcome.output(0)[..LINES_LENGTH]
-            .chunks(LINE_LENGTH)
-            .map(line)
-            .collect();
+        let reduced = Reduced {
+            run,
+            accepted: outcome.accepted(),
+            lines: lines(outcome),
+            findings: findings(outcome),
+        };
+        self.accepted += u64::from(reduced.accepted);
+        self.void += u64::from(!reduced.accepted);
+        for &(rule, _) in &reduced.findings {
+            self.rules[usize::from(rule)] += 1;
+        }
         for (number, causes) in ABSENCES {
-            let mut held = causes.iter().filter(|cause| rules.contains(cause));
-            if let (None, Some(&only), None) = (lines[number - 1], held.next(), held.next()) {
+            let mut held = causes.iter().filter(|&&cause| reduced.breaks(cause));
+            if let (None, Some(&only), None) = (reduced.lines[number - 1], held.next(), held.next())
+            {
                 self.absences[number][usize::from(only)] += 1;
             }
         }
-        self.least_volumes += u64::from(lines[5] == Some(1));
-        let slow = matches!(lines[12], Some(root) if (1..=SLOW_ROOT).contains(&root));
-        self.slow_stacks += u64::from(slow);
-        for (side, count) in ISOKINETIC_SIDES.iter().zip(&mut self.isokinetic_sides) {
-            let (line, rule, broken) = *side;
-            *count += u64::from(lines[17] == Some(line) && rules.contains(&rule) == broken);
+        for (edge, count) in EDGES.iter().zip(&mut self.edges) {
+            *count += (edge.times)(&reduced) as u64;
         }
-    }
-
-    fn count_findings(&mut self, outcome: &Outcome) -> Vec<u8> {
-        if outcome.accepted() {
-            self.accepted += 1;
-        } else {
-            self.void += 1;
-        }
-        let findings = outcome.output(1).chunks(FINDING_LENGTH);
-        let mut rules: Vec<u8> = findings
-            .take(outcome.findings())
-            .map(|finding| finding[0])
-            .collect();
-        for &rule in &rules {
-            self.rules[usize::from(rule)] += 1;
-        }
-        rules.dedup();
-        rules
     }
 
     pub fn add(&mut self, other: &Tally) {
@@ -125,9 +97,7 @@ impl Tally {
         for (mine, others) in self.absences.iter_mut().zip(&other.absences) {
             add_each(mine, others);
         }
-        self.least_volumes += other.least_volumes;
-        self.slow_stacks += other.slow_stacks;
-        add_each(&mut self.isokinetic_sides, &other.isokinetic_sides);
+        add_each(&mut self.edges, &other.edges);
         add_each(&mut self.refusals, &other.refusals);
     }
 
@@ -151,10 +121,8 @@ impl Tally {
                 need(count, format!("line {line} absent only by rule {cause}"));
             }
         }
-        need(self.least_volumes, "line 6 at 1".into());
-        need(self.slow_stacks, "a slow stack".into());
-        for (&side, &count) in ISOKINETIC_SIDES.iter().zip(&self.isokinetic_sides) {
-            need(count, side_text(side));
+        for (edge, &count) in EDGES.iter().zip(&self.edges) {
+            need(count, edge.name.into());
         }
         unreached
     }
@@ -185,14 +153,23 @@ fn add_each(mine: &mut [u64], others: &[u64]) {
     }
 }
 
-fn side_text((line, rule, broken): (i64, u8, bool)) -> String {
-    let judged = if broken { "broken" } else { "kept" };
-    format!("line 18 at {line} and rule {rule} {judged}")
+fn lines(outcome: &Outcome) -> Vec<Option<i64>> {
+    let lines = outcome.output(0)[..LINES_LENGTH].chunks(LINE_LENGTH);
+    lines.map(line).collect()
 }
 
 fn line(bytes: &[u8]) -> Option<i64> {
     let value = i64::from_le_bytes(std::array::from_fn(|i| bytes[1 + i]));
     (bytes[0] == 1).then_some(value)
+}
+
+/// Rule and place of each.
+fn findings(outcome: &Outcome) -> Vec<(u8, u16)> {
+    let findings = outcome.output(1).chunks(FINDING_LENGTH);
+    findings
+        .take(outcome.findings())
+        .map(|bytes| (bytes[0], u16::from_le_bytes([bytes[2], bytes[3]])))
+        .collect()
 }
 
 /// What was reached by jobs that are read.
@@ -215,23 +192,18 @@ impl fmt::Display for Tally {
                 .collect();
             writeln!(f, "    line {line}: {}", counted.join(", "))?;
         }
-        writeln!(f, "  line 6 at its least, 1: {}", self.least_volumes)?;
-        writeln!(
-            f,
-            "  slow stacks, line 13 from 1 to {SLOW_ROOT}: {}",
-            self.slow_stacks
-        )?;
-        let sides: Vec<String> = ISOKINETIC_SIDES
+        let edges: Vec<String> = EDGES
             .iter()
-            .zip(&self.isokinetic_sides)
-            .map(|(&side, count)| format!("  {}: {count}", side_text(side)))
+            .zip(&self.edges)
+            .map(|(edge, count)| format!("  {}: {count}", edge.name))
             .collect();
-        write!(f, "{}", sides.join("\n"))
+        write!(f, "{}", edges.join("\n"))
     }
 }
 
 #[cfg(test)]
 mod tests {
+    use independent::job::Job;
     use independent::samples;
     use leverbonnet::pipe::Call;
 
@@ -250,11 +222,8 @@ mod tests {
         assert!(!tally.unreached_by_reading().contains(&"a text".into()));
     }
 
-    /// The four runs at the limits of the percent isokinetic, of which two are past
-    /// them and are written as if they were not.
-    #[test]
-    fn a_percent_past_its_limit_is_told_from_one_that_is_written_alike() {
-        let job = samples::percent_limits();
+    /// What the runs of a job come to.
+    fn counted(job: &Job) -> Tally {
         let mut tally = Tally::default();
         for run in &job.runs {
             let call = Call::Reduce {
@@ -264,11 +233,54 @@ mod tests {
             };
             let fill = Fill::Pattern;
             let outcome = Trial { call, fill }.made(&INDEPENDENT, &job.bytes());
-            tally.count_reduced(&outcome);
+            tally.count_reduced(run, &outcome);
         }
-        assert_eq!(tally.isokinetic_sides, [0, 1, 1, 1, 1, 0]);
+        tally
+    }
+
+    /// The edges that are reached, with how often.
+    fn reached(tally: &Tally) -> Vec<(&'static str, u64)> {
+        let edges = EDGES.iter().zip(tally.edges);
+        edges
+            .map(|(edge, count)| (edge.name, count))
+            .filter(|&(_, count)| count > 0)
+            .collect()
+    }
+
+    /// Four runs, of which two are past a limit and are written as if they were not.
+    #[test]
+    fn a_percent_past_its_limit_is_told_from_one_that_is_written_alike() {
+        let tally = counted(&samples::percent_limits());
+        assert_eq!(
+            reached(&tally),
+            [
+                ("line 18 at 9000 and rule 15 broken", 1),
+                ("line 18 at 9000 and rule 15 kept", 1),
+                ("line 18 at 11000 and rule 16 kept", 1),
+                ("line 18 at 11000 and rule 16 broken", 1),
+            ]
+        );
         let unreached = tally.unreached_by_reading();
         assert!(unreached.contains(&"line 18 at 8999 and rule 15 broken".into()));
         assert!(!unreached.contains(&"line 18 at 9000 and rule 15 broken".into()));
+    }
+
+    /// Six runs, of which two stand by 1 percent of the net alone.
+    #[test]
+    fn weighings_are_told_apart_by_difference_and_net() {
+        assert_eq!(
+            reached(&counted(&samples::weighing_limits())),
+            [
+                ("weighed 5 apart: kept", 1),
+                ("weighed over 5 apart, up to 1 percent of the net: kept", 2),
+                ("weighed over 5 apart, just 1 percent of the net: kept", 2),
+                (
+                    "weighed over 5 apart, by less than a unit over 1 percent of the net: broken",
+                    1
+                ),
+                ("weighed 6 apart, the net negative: broken", 1),
+                ("accepted with a weighing over 5 apart", 2),
+            ]
+        );
     }
 }

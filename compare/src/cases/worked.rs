@@ -1,5 +1,5 @@
 //! The worked job: itself, with the least gas, at the limits of the percent
-//! isokinetic, each of its truncations, and each change of one byte.
+//! isokinetic and of a weighing, each of its truncations, and each change of one byte.
 
 use independent::samples;
 
@@ -18,6 +18,11 @@ pub fn thinnest() -> Case {
 pub fn at_percent_limits() -> Case {
     let name = "the worked job at the limits of the percent isokinetic".into();
     Case::of_job(name, samples::percent_limits(), Expected::Read)
+}
+
+pub fn at_weighing_limits() -> Case {
+    let name = "the worked job at the limits of a weighing".into();
+    Case::of_job(name, samples::weighing_limits(), Expected::Read)
 }
 
 /// Every shorter file, the empty one included.

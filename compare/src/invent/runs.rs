@@ -266,21 +266,34 @@ fn any_weighing(random: &mut Random, style: Style) -> Weighing {
     weighing
 }
 
-/// Final weights 5 apart, or 6, or closer.
+/// Final weights just as far apart as they may be, or closer, or a little further.
 fn weighing(random: &mut Random, kind: WeighingKind) -> Weighing {
     let tare = random.within(1_000..=3_000_000);
-    let second_final = tare + random.within(-20..=2_000);
-    let apart = random.pick(&[-5, -4, -1, 0, 0, 1, 4, 5]);
-    let apart = if random.percent(5) {
-        random.pick(&[-6, 6])
-    } else {
-        apart
+    let net = net(random);
+    let most = (net / 100).max(5);
+    let apart = match random.percent(5) {
+        true => most + 1,
+        false => random.pick(&[0, 0, 1, most - 1, most]),
     };
+    let second_final = tare + net;
+    let first_final = second_final + random.pick(&[-apart, apart]);
     Weighing {
         kind,
         tare: tare as u32,
-        first_final: (second_final + apart) as u32,
+        first_final: first_final as u32,
         second_final: second_final as u32,
+    }
+}
+
+/// Mostly light, so that 5 units are more than 1 percent or hardly less; heavy, also
+/// by whole hundreds, of which 1 percent is a difference exactly; or less than nothing.
+fn net(random: &mut Random) -> i64 {
+    match random.below(20) {
+        0 => random.within(-900..=-1),
+        1 | 2 => random.within(490..=710),
+        3 => random.within(2_000..=900_000),
+        4 => 100 * random.within(5..=9_000),
+        _ => random.within(-20..=2_000),
     }
 }
 

@@ -1,0 +1,108 @@
+//! The edges of the rules: what hardly any run comes to by chance, and some run of a
+//! comparison must.
+
+use independent::job::Run;
+
+/// A run that was read, and what was written of it.
+pub struct Reduced<'a> {
+    pub run: &'a Run,
+    pub accepted: bool,
+    pub lines: Vec<Option<i64>>,
+    /// Rule and place of each finding.
+    pub findings: Vec<(u8, u16)>,
+}
+
+pub struct Edge {
+    pub name: &'static str,
+    /// How often a run comes to it.
+    pub times: fn(&Reduced) -> usize,
+}
+
+const fn edge(name: &'static str, times: fn(&Reduced) -> usize) -> Edge {
+    Edge { name, times }
+}
+
+/// Line 13 where every head is 0.01 in water: a stack that is as slow as that,
+/// or slower, is one that the root's fifth place was asked for.
+const SLOW_ROOT: i64 = 10_000;
+
+/// The difference of two final weights that is let pass whatever the net is, and
+/// once was the greatest that was let pass at all.
+const STEADY: i64 = 5;
+
+#[rustfmt::skip]
+pub const EDGES: [Edge; 15] = [
+    edge("line 6 at its least, 1", |run| run.at(6, 1)),
+    edge("a slow stack, line 13 from 1 to 10000", |run| run.slow_stack()),
+    edge("line 18 at 8999 and rule 15 broken", |run| run.broken_at(15, 8_999)),
+    edge("line 18 at 9000 and rule 15 broken", |run| run.broken_at(15, 9_000)),
+    edge("line 18 at 9000 and rule 15 kept", |run| run.kept_at(15, 9_000)),
+    edge("line 18 at 11000 and rule 16 kept", |run| run.kept_at(16, 11_000)),
+    edge("line 18 at 11000 and rule 16 broken", |run| run.broken_at(16, 11_000)),
+    edge("line 18 at 11001 and rule 16 broken", |run| run.broken_at(16, 11_001)),
+    edge("weighed 5 apart: kept", |run| {
+        run.steady(|difference, _| difference == STEADY)
+    }),
+    edge("weighed over 5 apart, up to 1 percent of the net: kept", |run| {
+        run.steady(|difference, net| difference > STEADY && 100 * difference <= net)
+    }),
+    edge("weighed over 5 apart, just 1 percent of the net: kept", |run| {
+        run.steady(|difference, net| difference > STEADY && 100 * difference == net)
+    }),
+    edge("weighed over 5 apart, by less than a unit over 1 percent of the net: broken", |run| {
+        run.unsteady(|difference, net| difference > STEADY && (1..100).contains(&(100 * difference - net)))
+    }),
+    edge("weighed 6 apart, the net from 0 to 500: broken", |run| {
+        run.unsteady(|difference, net| difference == STEADY + 1 && (0..=500).contains(&net))
+    }),
+    edge("weighed 6 apart, the net negative: broken", |run| {
+        run.unsteady(|difference, net| difference == STEADY + 1 && net < 0)
+    }),
+    edge("accepted with a weighing over 5 apart", |run| {
+        usize::from(run.accepted && run.steady(|difference, _| difference > STEADY) > 0)
+    }),
+];
+
+impl Reduced<'_> {
+    fn line(&self, number: usize) -> Option<i64> {
+        self.lines[number - 1]
+    }
+
+    pub fn breaks(&self, rule: u8) -> bool {
+        self.findings.iter().any(|finding| finding.0 == rule)
+    }
+
+    fn at(&self, number: usize, value: i64) -> usize {
+        usize::from(self.line(number) == Some(value))
+    }
+
+    fn slow_stack(&self) -> usize {
+        usize::from(matches!(self.line(13), Some(root) if (1..=SLOW_ROOT).contains(&root)))
+    }
+
+    /// Once if line 18 is written so and the rule that judges it unrounded is broken.
+    fn broken_at(&self, rule: u8, percent: i64) -> usize {
+        usize::from(self.breaks(rule)) * self.at(18, percent)
+    }
+
+    fn kept_at(&self, rule: u8, percent: i64) -> usize {
+        usize::from(!self.breaks(rule)) * self.at(18, percent)
+    }
+
+    /// How many weighings with such a difference and net break rule 17.
+    fn unsteady(&self, such: fn(i64, i64) -> bool) -> usize {
+        self.weighed(such, true)
+    }
+
+    fn steady(&self, such: fn(i64, i64) -> bool) -> usize {
+        self.weighed(such, false)
+    }
+
+    fn weighed(&self, such: fn(i64, i64) -> bool, broken: bool) -> usize {
+        let by_place = (1..).zip(&self.run.weighings);
+        by_place
+            .filter(|(_, weighing)| such(weighing.difference(), weighing.net()))
+            .filter(|&(place, _)| self.findings.contains(&(17, place)) == broken)
+            .count()
+    }
+}
