@@ -24,10 +24,11 @@ ratio-exactly way n d limit some = exactly way n d _ _ limit (div-add-mod' n d) 
 
 -- a weighing is unsteady exactly when its final weights differ by more than 5 units, and 100 times as much is above the second less the tare
 pub unsteady-exactly : (w : Weighing) → (broken (unsteady (OneWeighing w)) ≡ true) ↔ ((5 < apart (w .first) (w .second)) × (w .second < w .tare + 100 * apart (w .first) (w .second)))
-unfolding broken unsteady holds
-unsteady-exactly w = (
-  λ e.
-      let above : steadyLimit (net w) < 100 * difference w = ltb-true _ _ e in
-      (omega (arith, limit-of-net (w .second) (w .tare)), omega (arith, limit-of-net (w .second) (w .tare))),
-  λ both. lt-ltb (steadyLimit (net w)) (100 * difference w) (omega (arith, both .0, both .1, limit-of-net (w .second) (w .tare))),
-)
+unfolding apart holds broken unsteady
+unsteady-exactly w =
+    let limit = limit-of-net (w .second) (w .tare) in (
+      λ e.
+          let above : steadyLimit (net w) < 100 * difference w = ltb-true _ _ e in
+          (omega (arith, limit), omega (arith, limit)),
+      λ both. lt-ltb (steadyLimit (net w)) (100 * difference w) (omega (arith, limit, both .0, both .1)),
+    )

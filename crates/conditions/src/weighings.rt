@@ -8,28 +8,34 @@ use grounds::comparison::Comparison;
 use grounds::comparison::Way;
 use grounds::comparison::apart;
 ghost use mathlib.Core.Path.{_≡_};
-ghost use Rattle.conditions.specs.Conditions.{unsteady, lacking, negative};
+ghost use lib.IntN.{subℕ};
+ghost use Rattle.conditions.specs.Conditions.{steadyLimit, unsteady, lacking, negative};
 
-// How far two final weights may differ whatever was gained, 0.1 mg.
+// How far two final weights may differ whatever the net is, 0.1 mg.
 const GREATEST_DIFFERENCE: u64 = 5;
 
 // A difference is 1 percent of what it equals so many times over.
 const HUNDREDFOLD: u64 = 100;
 
-// Rule 17: a weighing whose two final weights differ by more than 0.5 mg and by more than 1 percent of the net. One
-// comparison: a net that is negative counts as 0, so that the 0.5 mg are all that counts.
+// The larger of 500 and the net. A net that is negative counts as 0, which is less than 500.
+fn steady_limit(second: u64, tare: u64) -> u64
+    ensures { λ r. ⌜ r ≡ steadyLimit (subℕ second tare) ⌝ }
+{
+    larger(HUNDREDFOLD * GREATEST_DIFFERENCE, less(second, tare))
+}
+
+// Rule 17: a weighing whose two final weights differ by more than 0.5 mg and by more than 1 percent of the net, a hundred
+// times over and as one comparison.
 pub fn unsteady(part: Part) -> Ground
     ensures { λ r. ⌜ r ≡ unsteady part ⌝ }
 {
     let Part::OneWeighing(weighing) = part else {
         return Ground::Silent;
     };
-    let difference = apart(weighing.first as u64, weighing.second as u64);
-    let net = less(weighing.second as u64, weighing.tare as u64);
     Ground::Compared(Comparison {
-        left: HUNDREDFOLD * difference,
+        left: HUNDREDFOLD * apart(weighing.first as u64, weighing.second as u64),
         way: Way::Above,
-        right: larger(HUNDREDFOLD * GREATEST_DIFFERENCE, net),
+        right: steady_limit(weighing.second as u64, weighing.tare as u64),
     })
 }
 
