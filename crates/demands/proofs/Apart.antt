@@ -26,12 +26,10 @@ use Rattle.reduction.specs.declared.Which.the-variants.{Index, NoRun}
 use Rattle.reduction.specs.Reducing.{reducedRun, runNamed}
 use Rattle.reduction.proofs.ClearJobs.{found-few}
 use Rattle.reduction.proofs.Naming.{found-inside}
-use Rattle.traverse.specs.Layout.{mostDistances}
-use Rattle.traverse.specs.Round.{roundLayout}
-use Rattle.traverse.specs.Rectangle.{rectangleLayout}
-use Rattle.traverse.proofs.PositionLaws.{points-of}
-use Rattle.traverse.proofs.RoundLaws.{round-ok}
-use Rattle.traverse.proofs.RectangleLaws.{rectangle-ok, grid-ok}
+use Rattle.traverse.specs.Layout.{mostDistances, roundLayout, rectangleLayout}
+use Rattle.distances.proofs.PositionLaws.{points-of}
+use Rattle.distances.proofs.RoundLaws.{round-ok}
+use Rattle.distances.proofs.RectangleLaws.{rectangle-ok, grid-ok}
 use Rattle.traverse.proofs.Theorems.{round-length, rectangle-length}
 use Rattle.writing.specs.Bytes.{sheetSize, findingSize}
 use Rattle.printing.specs.Jobs.{jobText}

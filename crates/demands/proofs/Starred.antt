@@ -4,8 +4,8 @@ use Rattle.lines.specs.Starred.{roots, leak, workedLines}
 use Rattle.lines.proofs.Starred.{roots-hold, leak-holds, worked-lines-hold}
 use Rattle.rules.specs.Starred.{Each, starredFactors, starredIsokinetic, starredWeighings}
 use Rattle.rules.proofs.Starred.{starred-factors, starred-isokinetic, starred-weighings, each-mapped}
-use Rattle.traverse.specs.Positions.{starredPositions}
-use Rattle.traverse.proofs.Theorems.{starred-positions}
+use Rattle.distances.specs.Positions.{starredPositions}
+use Rattle.distances.proofs.PositionLaws.{starred-positions}
 use Rattle.records.specs.Worked.{workedCertificates, workedRun}
 use Rattle.job.specs.Worked.{workedJob, workedRead}
 use Rattle.demands.proofs.Examples.{worked}

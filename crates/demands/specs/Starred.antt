@@ -5,7 +5,7 @@ use mathlib.Core.List.{List, [], _∷_, _++_, map}
 use lib.ListN.{replicate}
 use Rattle.lines.specs.Starred.{Example, roots, leak, workedLines}
 use Rattle.rules.specs.Starred.{StarredFactor, starredFactors, FactorStands, StarredIsokinetic, starredIsokinetic, IsokineticStands, StarredWeighing, starredWeighings, WeighingStands}
-use Rattle.traverse.specs.Positions.{position, starredPositions}
+use Rattle.distances.specs.Positions.{position, starredPositions}
 use Rattle.records.specs.declared.Certificate.{Certificate}
 use Rattle.records.specs.declared.Run.{Run}
 use Rattle.records.specs.Worked.{workedCertificates, workedRun}

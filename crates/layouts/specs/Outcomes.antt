@@ -10,8 +10,9 @@ use Rattle.output.specs.declared.Answer.{Answer}
 use Rattle.output.specs.declared.Answer.the-variants.{Done, Refused}
 use Rattle.output.specs.Bytes.{le, joined}
 use Rattle.output.specs.Splice.{spliced}
-use Rattle.traverse.specs.Round.{roundFits, roundLayout}
-use Rattle.traverse.specs.Rectangle.{rectangleFits, rectangleLayout}
+use Rattle.distances.specs.Round.{roundFits}
+use Rattle.distances.specs.Rectangle.{rectangleFits}
+use Rattle.traverse.specs.Layout.{roundLayout, rectangleLayout}
 
 -- refused, with number and place; or laid out, with the distances
 pub data LayoutOutcome : Type 0 where

@@ -5,11 +5,11 @@ use mathlib.Core.List.{List, [], _∷_, _++_, append-nil}
 use native.Mathlib.Nat.{mul-assoc, suc-mul, mul-le-mul, mul-le-mul-right, le-antisymm}
 use native.Mathlib.Omega.{arith}
 use lib.ListN.{length, getD, set, length-append}
-use Rattle.traverse.specs.Layout.{eachTo, IsLayout, mostDistances}
-use Rattle.traverse.specs.Rectangle.{firstCells, secondCells, center, rectangleLayout}
 use Rattle.arrays.proofs.Filled.{Filled}
+use Rattle.distances.specs.Rectangle.{firstCells, secondCells, center}
+use Rattle.distances.proofs.RectangleLaws.{CellsOk}
+use Rattle.traverse.specs.Layout.{eachTo, rectangleLayout, mostDistances, IsLayout}
 use Rattle.traverse.proofs.ListLaws.{filled-two, each-none, each-more, each-length, each-at}
-use Rattle.traverse.proofs.RectangleLaws.{CellsOk}
 
 -- the two distances of cell i along the first side, j along the second
 abbrev pub pair : ℕ → ℕ → ℕ → ℕ → ℕ → ℕ → List ℕ

@@ -2,32 +2,19 @@
 use Prim.Native.Nat.{ℕ, _+_, _-_, _*_, _%_, _≤_, _<_}
 use mathlib.Core.Path.{_≡_, refl, _∙_}
 use mathlib.Core.Bool.{Bool, true, cond, _&&_}
-use mathlib.Core.List.{[], _∷_, map}
+use mathlib.Core.List.{[], _∷_}
 use native.Mathlib.Nat.{mul-one, mul-assoc, add-zero}
 use native.Mathlib.Omega.{arith}
 use lib.Dec.{eqb, lit<}
 use lib.ListN.{length, getD}
-use Rattle.arith.specs.Root.{grown, floorRoot, nearestRoot}
-use Rattle.readings.specs.Ranges.{diameterPoints}
-use Rattle.traverse.specs.Positions.{IsPosition, nearPosition, position, starredPositions}
-use Rattle.traverse.specs.Round.{roundFits, margin, measured, distance, roundLayout}
-use Rattle.traverse.specs.Rectangle.{rectangleFits, firstCells, secondCells, center, rectangleLayout}
+use Rattle.distances.specs.Positions.{position}
+use Rattle.distances.specs.Round.{roundFits, margin, measured, distance}
+use Rattle.distances.specs.Rectangle.{rectangleFits, firstCells, secondCells, center}
+use Rattle.distances.proofs.RoundLaws.{round-ok, distance-least, distance-most, distance-mono, distance-mirror}
+use Rattle.distances.proofs.RectangleLaws.{rectangle-ok, cells-ok, Spread, spread}
+use Rattle.traverse.specs.Layout.{roundLayout, rectangleLayout}
 use Rattle.traverse.proofs.ListLaws.{each-length, each-at}
-use Rattle.traverse.proofs.PositionLaws.{points-of, position-is, position-unique}
-use Rattle.traverse.proofs.RoundLaws.{round-ok, distance-least, distance-most, distance-mono, distance-mirror}
-use Rattle.traverse.proofs.RectangleLaws.{rectangle-ok, cells-ok, Spread, spread}
 use Rattle.traverse.proofs.RowLaws.{row, row-length, rows-at}
-
--- Of each point of the near half the rule has one number, which is its position
-pub one-position : (n i : ℕ) → diameterPoints n ≡ true → 1 ≤ i → 2 * i ≤ n → IsPosition n i (position n i) × ((p : ℕ) → IsPosition n i p → p ≡ position n i)
-one-position n i e some near =
-    let is : IsPosition n i (position n i) = position-is (points-of n e) some near in
-    (is, λ p other. position-unique other is)
-
--- The positions for 6 points
-pub starred-positions : map (position 6) (1 ∷ 2 ∷ 3 ∷ 4 ∷ 5 ∷ 6 ∷ []) ≡ starredPositions
-unfolding starredPositions position nearPosition nearestRoot floorRoot grown
-starred-positions = refl
 
 -- A round layout has a distance for each point, in order
 pub round-length : (n d z : ℕ) → length (roundLayout n d z) ≡ n

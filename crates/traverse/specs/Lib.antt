@@ -1,5 +1,2 @@
--- What a traverse layout is, and which layouts are worked.
+-- What a traverse layout is.
 pub mod Layout
-pub mod Positions
-pub mod Round
-pub mod Rectangle

@@ -1,10 +1,10 @@
-// Traverse layouts: where on a diameter, or in the cells of a rectangle, the points of a stack are sampled.
-// Relies on rounded division and the nearest root, and on the grids and the ranges of the readings; knows nothing of a job.
+// Traverse layouts: the distances of all points of a stack, on its diameter or in its cells.
+// Relies on the distance of each point, and on the grids and the ranges of the readings; knows nothing of a job.
 
-use crate::cells::center;
-use crate::cells::first_cells;
-use crate::cells::second_cells;
-use crate::diameters::distance;
+use distances::cells::center;
+use distances::cells::first_cells;
+use distances::cells::second_cells;
+use distances::diameters::distance;
 use grids::GridPoints;
 use readings::certificates::NozzleDiameter;
 use readings::layouts::DiameterPoints;
@@ -12,12 +12,9 @@ use readings::layouts::LayoutDiameter;
 use readings::runs::Side;
 ghost use mathlib.Core.Path.{_≡_};
 ghost use mathlib.Core.Bool.{true};
-ghost use Rattle.traverse.specs.Layout.{IsLayout};
-ghost use Rattle.traverse.specs.Round.{roundFits, roundLayout};
-ghost use Rattle.traverse.specs.Rectangle.{rectangleFits, rectangleLayout};
-
-mod cells;
-mod diameters;
+ghost use Rattle.distances.specs.Round.{roundFits};
+ghost use Rattle.distances.specs.Rectangle.{rectangleFits};
+ghost use Rattle.traverse.specs.Layout.{roundLayout, rectangleLayout, IsLayout};
 
 // The most distances of a layout: two for each of 49 points.
 pub const MOST_DISTANCES: usize = 98;

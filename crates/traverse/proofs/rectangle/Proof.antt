@@ -2,7 +2,7 @@
 use Prim.Native.Nat.{_-_, _≤_, _<_}
 use native.Mathlib.Omega.{arith}
 use Rattle.arrays.proofs.Filled.{filled-none}
-use Rattle.traverse.proofs.RectangleLaws.{RectangleOk, rectangle-ok, CellsOk, cells-ok}
+use Rattle.distances.proofs.RectangleLaws.{RectangleOk, rectangle-ok, CellsOk, cells-ok}
 use Rattle.traverse.proofs.RowLaws.{Rows, Row, rows-none, row-none, row-room, row-more, row-all, rows-all}
 use Rattle.traverse.proofs.rectangle.Statement.{statement}
 use Rattle.traverse.proofs.rectangle.Tie as tie

@@ -8,8 +8,8 @@ use native.Mathlib.Nat.{mul-le-mul}
 use native.Mathlib.Omega.{arith}
 use Rattle.readings.specs.Ranges.{side}
 use Rattle.grids.specs.Grids.{gridPoints}
-use Rattle.traverse.specs.Rectangle.{rectangleFits, wideEnough}
 use Rattle.readings.proofs.EarlyAnswers.{fails, passes}
+use Rattle.distances.specs.Rectangle.{rectangleFits, wideEnough}
 use Rattle.traverse.proofs.rectangle_fits.Statement.{statement}
 use Rattle.traverse.proofs.rectangle_fits.Tie as tie
 

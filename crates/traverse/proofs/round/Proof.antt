@@ -5,12 +5,12 @@ use mathlib.Core.List.{List, [], _∷_}
 use native.Mathlib.Nat.{le-antisymm}
 use native.Mathlib.Omega.{arith}
 use lib.ListN.{set}
-use Rattle.traverse.specs.Layout.{eachTo, IsLayout, mostDistances}
-use Rattle.traverse.specs.Round.{distance, roundLayout}
 use Rattle.arrays.proofs.Filled.{Filled, filled-none, filled-more}
+use Rattle.distances.specs.Round.{distance}
+use Rattle.distances.proofs.PositionLaws.{points-of}
+use Rattle.distances.proofs.RoundLaws.{round-ok}
+use Rattle.traverse.specs.Layout.{eachTo, roundLayout, mostDistances, IsLayout}
 use Rattle.traverse.proofs.ListLaws.{each-none, each-more}
-use Rattle.traverse.proofs.PositionLaws.{points-of}
-use Rattle.traverse.proofs.RoundLaws.{round-ok}
 use Rattle.traverse.proofs.round.Statement.{statement}
 use Rattle.traverse.proofs.round.Tie as tie
 

@@ -2,8 +2,8 @@
 use mathlib.Core.Path.{_∙_}
 use borrow.Author.Needs.{needs}
 use borrow.Author.Tests.{not-true, not-false}
-use Rattle.traverse.specs.Round.{roundFits}
 use Rattle.readings.proofs.EarlyAnswers.{fails, passes}
+use Rattle.distances.specs.Round.{roundFits}
 use Rattle.traverse.proofs.round_fits.Statement.{statement}
 use Rattle.traverse.proofs.round_fits.Tie as tie
 

@@ -3,9 +3,9 @@ use Prim.Native.Nat.{_≤_, _<_}
 use mathlib.Core.Path.{_∙_, sym}
 use borrow.Author.Needs.{needs}
 use native.Mathlib.Omega.{arith}
-use Rattle.traverse.proofs.RoundLaws.{margin-narrow, margin-wide}
-use Rattle.traverse.proofs.diameters.margin.Statement.{statement}
-use Rattle.traverse.proofs.diameters.margin.Tie as tie
+use Rattle.distances.proofs.RoundLaws.{margin-narrow, margin-wide}
+use Rattle.distances.proofs.diameters.margin.Statement.{statement}
+use Rattle.distances.proofs.diameters.margin.Tie as tie
 
 larger-requires : tie.Need-larger-requires
 larger-requires c κs = search needs

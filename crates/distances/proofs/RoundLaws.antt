@@ -11,9 +11,9 @@ use Rattle.arith.specs.Rounding.{roundDiv, IsRounded}
 use Rattle.arith.proofs.Rounding.{round-is, round-mono}
 use Rattle.readings.specs.Ranges.{diameterPoints, layoutDiameter, leastLayoutDiameter, greatestLayoutDiameter, nozzleDiameter, leastNozzleDiameter, greatestNozzleDiameter}
 use Rattle.readings.proofs.Ranges.{both-left, both-right, within-least, within-greatest}
-use Rattle.traverse.specs.Positions.{position}
-use Rattle.traverse.specs.Round.{roundFits, margin, kept, measured, distance}
-use Rattle.traverse.proofs.PositionLaws.{points-of, position-mono, position-mirror}
+use Rattle.distances.specs.Positions.{position}
+use Rattle.distances.specs.Round.{roundFits, margin, kept, measured, distance}
+use Rattle.distances.proofs.PositionLaws.{points-of, position-mono, position-mirror}
 
 -- a round layout inside its ranges
 pub record RoundOk (n diameter nozzle : ℕ) : Type 0 where

@@ -5,12 +5,12 @@ use borrow.Author.Needs.{needs}
 use native.Mathlib.Nat.{mul-le-mul}
 use native.Mathlib.Omega.{arith}
 use Rattle.arith.specs.Rounding.{roundDiv}
-use Rattle.traverse.specs.Layout.{AtMost}
-use Rattle.traverse.specs.Positions.{position}
-use Rattle.traverse.specs.Round.{margin, kept, measured, distance}
-use Rattle.traverse.proofs.RoundLaws.{RoundOk, round-ok, margin-half, kept-most}
-use Rattle.traverse.proofs.diameters.distance.Statement.{statement}
-use Rattle.traverse.proofs.diameters.distance.Tie as tie
+use Rattle.distances.specs.Promise.{AtMost}
+use Rattle.distances.specs.Positions.{position}
+use Rattle.distances.specs.Round.{margin, kept, measured, distance}
+use Rattle.distances.proofs.RoundLaws.{RoundOk, round-ok, margin-half, kept-most}
+use Rattle.distances.proofs.diameters.distance.Statement.{statement}
+use Rattle.distances.proofs.diameters.distance.Tie as tie
 
 is-distance : {n d z : ℕ} (i : ℕ) {p x m r : ℕ} → RoundOk n d z → p ≡ position n i → x ≡ roundDiv (p * d) 10 → m ≡ margin d z → r ≡ kept m (100 * d) x → AtMost 999900 (distance n d z i) r
 unfolding distance measured

@@ -1,10 +1,10 @@
 -- One rounded division, no wider than the side.
 use borrow.Author.Needs.{needs}
 use native.Mathlib.Omega.{arith}
-use Rattle.traverse.specs.Rectangle.{center}
-use Rattle.traverse.proofs.RectangleLaws.{center-product, center-high}
-use Rattle.traverse.proofs.cells.center.Statement.{statement}
-use Rattle.traverse.proofs.cells.center.Tie as tie
+use Rattle.distances.specs.Rectangle.{center}
+use Rattle.distances.proofs.RectangleLaws.{center-product, center-high}
+use Rattle.distances.proofs.cells.center.Statement.{statement}
+use Rattle.distances.proofs.cells.center.Tie as tie
 
 mul-round-div : tie.Need-mul-round-div
 mul-round-div c = search needs

@@ -1,12 +1,10 @@
--- The layout of a round stack (docs/RULES.md, Traverse layouts): n points on a diameter of 0.1 in, sampled with a nozzle of 0.001 in.
+-- The points of a round stack (docs/RULES.md, Traverse layouts): n on a diameter of 0.1 in, sampled with a nozzle of 0.001 in.
 use Prim.Native.Nat.{ℕ, _-_, _*_, min, max}
 use mathlib.Core.Bool.{Bool, cond, _&&_}
-use mathlib.Core.List.{List, [], _∷_}
 use lib.Dec.{leb}
 use Rattle.arith.specs.Rounding.{roundDiv}
 use Rattle.readings.specs.Ranges.{diameterPoints, layoutDiameter, nozzleDiameter}
-use Rattle.traverse.specs.Layout.{eachTo}
-use Rattle.traverse.specs.Positions.{position}
+use Rattle.distances.specs.Positions.{position}
 
 -- a round layout inside its ranges
 unfoldable pub roundFits : ℕ → ℕ → ℕ → Bool
@@ -27,7 +25,3 @@ measured n diameter i = roundDiv (position n i * diameter) 10
 -- the distance of point i, 0.001 in
 unfoldable pub distance : ℕ → ℕ → ℕ → ℕ → ℕ
 distance n diameter nozzle i = kept (margin diameter nozzle) (100 * diameter) (measured n diameter i)
-
--- the distances of all points, across the diameter
-unfoldable pub roundLayout : ℕ → ℕ → ℕ → List ℕ
-roundLayout n diameter nozzle = eachTo (λ i. distance n diameter nozzle i ∷ []) n

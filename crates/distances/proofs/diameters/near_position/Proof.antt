@@ -1,10 +1,10 @@
 -- The definition's own root, which is at most half the diameter; that the result is at most 499 is part of the rule.
 use borrow.Author.Needs.{needs}
 use native.Mathlib.Omega.{arith}
-use Rattle.traverse.specs.Positions.{nearPosition}
-use Rattle.traverse.proofs.PositionLaws.{points-of, near-is, root-most}
-use Rattle.traverse.proofs.diameters.near_position.Statement.{statement}
-use Rattle.traverse.proofs.diameters.near_position.Tie as tie
+use Rattle.distances.specs.Positions.{nearPosition}
+use Rattle.distances.proofs.PositionLaws.{points-of, near-is, root-most}
+use Rattle.distances.proofs.diameters.near_position.Statement.{statement}
+use Rattle.distances.proofs.diameters.near_position.Tie as tie
 
 mul-nearest-root : tie.Need-mul-nearest-root
 mul-nearest-root c = search needs

@@ -6,8 +6,8 @@ ghost use mathlib.Core.Bool.{true};
 ghost use Prim.Native.Nat.{_≤_};
 ghost use Rattle.readings.specs.Ranges.{leastSide, greatestSide};
 ghost use Rattle.grids.specs.Grids.{gridPoints};
-ghost use Rattle.traverse.specs.Layout.{AtMost};
-ghost use Rattle.traverse.specs.Rectangle.{gridOf, firstCells, secondCells, center};
+ghost use Rattle.distances.specs.Promise.{AtMost};
+ghost use Rattle.distances.specs.Rectangle.{gridOf, firstCells, secondCells, center};
 
 // The larger of a grid's two counts of cells: the least whose square is not below the number of points.
 fn larger_count(points: u16) -> u64

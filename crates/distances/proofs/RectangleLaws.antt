@@ -12,8 +12,8 @@ use Rattle.arith.proofs.Rounding.{round-is, round-le, le-round}
 use Rattle.readings.specs.Ranges.{side, leastSide, greatestSide}
 use Rattle.grids.specs.Grids.{gridNumbers, gridPoints}
 use Rattle.readings.proofs.Ranges.{both-left, both-right, within-least, within-greatest}
-use Rattle.traverse.specs.Rectangle.{rectangleFits, wideEnough, gridOf, firstCells, secondCells, center}
-use Rattle.traverse.proofs.Tests.{allOf, all-of}
+use Rattle.distances.specs.Rectangle.{rectangleFits, wideEnough, gridOf, firstCells, secondCells, center}
+use Rattle.distances.proofs.Tests.{allOf, all-of}
 
 -- a rectangular layout inside its ranges
 pub record RectangleOk (n first second : ℕ) : Type 0 where

@@ -1,4 +1,4 @@
--- The layout of a rectangular stack (docs/RULES.md, Traverse layouts): n points at the centers of equal cells, on sides of 0.1 in.
+-- The points of a rectangular stack (docs/RULES.md, Traverse layouts): n at the centers of equal cells, on sides of 0.1 in.
 use Prim.Native.Nat.{ℕ, _+_, _-_, _*_}
 use mathlib.Core.Bool.{Bool, cond, _&&_}
 use mathlib.Core.List.{List, [], _∷_}
@@ -6,7 +6,6 @@ use lib.Dec.{leb, eqb}
 use Rattle.arith.specs.Rounding.{roundDiv}
 use Rattle.readings.specs.Ranges.{side, leastLayoutDiameter}
 use Rattle.grids.specs.Grids.{Grid, _by_, grids, gridPoints}
-use Rattle.traverse.specs.Layout.{eachTo}
 
 -- a rectangle's diameter 2LW/(L+W) is 12 in or more
 unfoldable pub wideEnough : ℕ → ℕ → Bool
@@ -35,10 +34,3 @@ secondCells n first second = cond (leb second first) (gridOf n .smaller) (gridOf
 -- the center of cell i along a side, 0.001 in
 unfoldable pub center : ℕ → ℕ → ℕ → ℕ
 center side cells i = roundDiv ((2 * i - 1) * 100 * side) (2 * cells)
-
--- the two distances of each point, the first side's first; the first side's cell is the fastest count
-unfoldable pub rectangleLayout : ℕ → ℕ → ℕ → List ℕ
-rectangleLayout n first second =
-    let columns : ℕ = firstCells n first second in
-    let rows : ℕ = secondCells n first second in
-    eachTo (λ j. eachTo (λ i. center first columns i ∷ center second rows j ∷ []) columns) rows

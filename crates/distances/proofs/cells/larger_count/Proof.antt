@@ -5,10 +5,10 @@ use mathlib.Core.Bool.{true}
 use native.Mathlib.Nat.{mul-le-mul}
 use native.Mathlib.Omega.{arith}
 use Rattle.grids.specs.Grids.{gridPoints}
-use Rattle.traverse.specs.Rectangle.{gridOf}
-use Rattle.traverse.proofs.RectangleLaws.{grid-ok, count-below, count-reached}
-use Rattle.traverse.proofs.cells.larger_count.Statement.{statement}
-use Rattle.traverse.proofs.cells.larger_count.Tie as tie
+use Rattle.distances.specs.Rectangle.{gridOf}
+use Rattle.distances.proofs.RectangleLaws.{grid-ok, count-below, count-reached}
+use Rattle.distances.proofs.cells.larger_count.Statement.{statement}
+use Rattle.distances.proofs.cells.larger_count.Tie as tie
 
 abbrev Inv-loop : tie.InvT-loop
 Inv-loop points n count₀ count = count ≤ gridOf points .larger

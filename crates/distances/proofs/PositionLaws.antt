@@ -3,6 +3,7 @@
 use Prim.Native.Nat.{ℕ, _+_, _-_, _*_, _/_, _%_, _^_, _≤_, _<_}
 use mathlib.Core.Path.{_≡_, refl, _∙_}
 use mathlib.Core.Bool.{Bool, true, _&&_}
+use mathlib.Core.List.{[], _∷_, map}
 use native.Mathlib.Nat.{add-comm, mul-le-mul, mul-le-mul-right, lt-of-not-le, le-antisymm, div-le-of-le-mul}
 use native.Mathlib.Decide.{decLe}
 use native.Mathlib.Omega.{arith}
@@ -12,8 +13,8 @@ use Rattle.arith.specs.Root.{grown, floorRoot, nearestRoot}
 use Rattle.arith.proofs.Root.{nearest-is, root-le}
 use Rattle.readings.specs.Ranges.{within, diameterPoints, leastDiameterPoints, greatestDiameterPoints}
 use Rattle.readings.proofs.Ranges.{both-left, both-right, within-least, within-greatest}
-use Rattle.traverse.specs.Positions.{IsPosition, nearPosition, position}
-use Rattle.traverse.proofs.Tests.{allBelow, all-below}
+use Rattle.distances.specs.Positions.{IsPosition, nearPosition, position, starredPositions}
+use Rattle.distances.proofs.Tests.{allBelow, all-below}
 
 -- n points on a diameter
 pub record Points (n : ℕ) : Type 0 where
@@ -134,3 +135,14 @@ position-mono {n} {i} {j} ok some inward inside = go (decLe (2 * i) n) (decLe (2
         omega (arith, position-is ok some a .near, position-mirror ok (omega arith) inside, position-is {n = n} {i = n + 1 - j} ok (omega arith) (omega (arith, ok .even)) .near)
     go (no a) (yes b) = absurd (a (omega arith))
     go (no a) (no b) = omega (arith, position-mirror ok some (omega arith), position-mirror ok (omega arith) inside, mirrored (lt-of-not-le a))
+
+-- Of each point of the near half the rule has one number, which is its position
+pub one-position : (n i : ℕ) → diameterPoints n ≡ true → 1 ≤ i → 2 * i ≤ n → IsPosition n i (position n i) × ((p : ℕ) → IsPosition n i p → p ≡ position n i)
+one-position n i e some near =
+    let is : IsPosition n i (position n i) = position-is (points-of n e) some near in
+    (is, λ p other. position-unique other is)
+
+-- The positions for 6 points
+pub starred-positions : map (position 6) (1 ∷ 2 ∷ 3 ∷ 4 ∷ 5 ∷ 6 ∷ []) ≡ starredPositions
+unfolding starredPositions position nearPosition nearestRoot floorRoot grown
+starred-positions = refl

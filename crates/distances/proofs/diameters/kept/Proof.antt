@@ -1,8 +1,8 @@
 -- The definition, written with the two choices.
 use borrow.Author.Needs.{needs}
-use Rattle.traverse.specs.Round.{kept}
-use Rattle.traverse.proofs.diameters.kept.Statement.{statement}
-use Rattle.traverse.proofs.diameters.kept.Tie as tie
+use Rattle.distances.specs.Round.{kept}
+use Rattle.distances.proofs.diameters.kept.Statement.{statement}
+use Rattle.distances.proofs.diameters.kept.Tie as tie
 
 larger-requires : tie.Need-larger-requires
 larger-requires c κs = search needs

@@ -3,9 +3,9 @@ use Prim.Native.Nat.{_-_}
 use mathlib.Core.Path.{_∙_, sym, ap}
 use borrow.Author.Needs.{needs}
 use native.Mathlib.Omega.{arith}
-use Rattle.traverse.proofs.PositionLaws.{points-of, near-at, far-at}
-use Rattle.traverse.proofs.diameters.position.Statement.{statement}
-use Rattle.traverse.proofs.diameters.position.Tie as tie
+use Rattle.distances.proofs.PositionLaws.{points-of, near-at, far-at}
+use Rattle.distances.proofs.diameters.position.Statement.{statement}
+use Rattle.distances.proofs.diameters.position.Tie as tie
 
 mul-if1 : tie.Need-mul-if1
 mul-if1 c = omega (arith, points-of (c .args .n) (c .pre .0) .most)

@@ -8,9 +8,9 @@ ghost use mathlib.Core.Path.{_≡_};
 ghost use mathlib.Core.Bool.{true};
 ghost use Prim.Native.Nat.{_*_, _≤_};
 ghost use Rattle.readings.specs.Ranges.{diameterPoints, greatestNozzleDiameter};
-ghost use Rattle.traverse.specs.Layout.{AtMost};
-ghost use Rattle.traverse.specs.Positions.{nearPosition, position};
-ghost use Rattle.traverse.specs.Round.{roundFits, margin, kept, distance};
+ghost use Rattle.distances.specs.Promise.{AtMost};
+ghost use Rattle.distances.specs.Positions.{nearPosition, position};
+ghost use Rattle.distances.specs.Round.{roundFits, margin, kept, distance};
 
 // A stack of 24 in, 0.1 in: the widest whose points may stand nearer to the wall.
 const NARROW: u64 = 240;
