@@ -1,5 +1,5 @@
 //! Counts what the compared jobs reached: verdicts, rules, absent lines for each
-//! of their causes, both sides of limits, refusals. A comparison that reached too
+//! of their causes, edges of the rules, refusals. A comparison that reached too
 //! little is no proof.
 
 mod edges;
@@ -77,8 +77,7 @@ impl Tally {
         }
         for (number, causes) in ABSENCES {
             let mut held = causes.iter().filter(|&&cause| reduced.breaks(cause));
-            if let (None, Some(&only), None) = (reduced.lines[number - 1], held.next(), held.next())
-            {
+            if let (None, Some(&only), None) = (reduced.line(number), held.next(), held.next()) {
                 self.absences[number][usize::from(only)] += 1;
             }
         }

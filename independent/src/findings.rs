@@ -151,8 +151,8 @@ fn volume_findings(list: &mut List, lines: &Lines) {
     );
 }
 
-/// Constant weight is a difference of no more than 0.5 mg or 1 percent of the
-/// net, whichever is greater.
+/// A weight is constant within 0.5 mg, or within 1 percent of the net where that
+/// is more.
 fn is_unsteady(weighing: &Weighing) -> bool {
     let [difference, net] = [weighing.difference(), weighing.net()];
     difference > WIDEST_WEIGHT_DIFFERENCE && 100 * difference > net

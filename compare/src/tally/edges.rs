@@ -64,7 +64,7 @@ pub const EDGES: [Edge; 15] = [
 ];
 
 impl Reduced<'_> {
-    fn line(&self, number: usize) -> Option<i64> {
+    pub fn line(&self, number: usize) -> Option<i64> {
         self.lines[number - 1]
     }
 

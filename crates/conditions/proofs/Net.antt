@@ -1,4 +1,4 @@
--- The larger of 500 and a net, from what is left of the second final weight behind the tare.
+-- The larger of 500 and a net is the same where the tare is taken off down to 0 and no further.
 use Prim.Native.Nat.{ℕ, _-_, _*_, _≤_, max}
 use mathlib.Core.Path.{_≡_}
 use native.Mathlib.Nat.{lt-of-not-le}

@@ -14,7 +14,7 @@ ghost use Rattle.conditions.specs.Conditions.{steadyLimit, unsteady, lac
 // How far two final weights may differ whatever the net is, 0.1 mg.
 const GREATEST_DIFFERENCE: u64 = 5;
 
-// A difference is 1 percent of what it equals so many times over.
+// What a difference is taken times to be set against the net, of which it may be 1 percent.
 const HUNDREDFOLD: u64 = 100;
 
 // The larger of 500 and the net. A net that is negative counts as 0, which is less than 500.
@@ -24,8 +24,8 @@ fn steady_limit(second: u64, tare: u64) -> u64
     larger(HUNDREDFOLD * GREATEST_DIFFERENCE, less(second, tare))
 }
 
-// Rule 17: a weighing whose two final weights differ by more than 0.5 mg and by more than 1 percent of the net, a hundred
-// times over and as one comparison.
+// Rule 17: a weighing whose two final weights differ by more than 0.5 mg and by more than 1 percent of the net. Both are
+// one comparison.
 pub fn unsteady(part: Part) -> Ground
     ensures { λ r. ⌜ r ≡ unsteady part ⌝ }
 {

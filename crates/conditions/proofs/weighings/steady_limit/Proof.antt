@@ -1,4 +1,4 @@
--- `steady_limit` is its definition, from what is left of the second final weight behind the tare.
+-- `steady_limit` is its definition, with the tare taken off down to 0.
 use native.Mathlib.Omega.{arith}
 use borrow.Author.Needs.{needs}
 use Rattle.conditions.proofs.Net.{limit-of-net}
