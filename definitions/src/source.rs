@@ -12,7 +12,7 @@ pub struct Definition {
     pub cites: BTreeSet<String>,
 }
 
-/// What an import line takes from a module.
+/// What an import line takes from a module, but for brackets, which are no name.
 #[derive(Debug, PartialEq, Eq)]
 pub struct Import {
     pub module: String,
@@ -63,7 +63,7 @@ fn import(line: &str) -> Option<Import> {
         names: list
             .split(',')
             .map(taken)
-            .filter(|n| n.chars().any(char::is_alphanumeric))
+            .filter(|name| !names(name).is_empty())
             .collect(),
     })
 }

@@ -202,6 +202,22 @@ fn imports_that_are_not_used_or_doubled() {
 }
 
 #[test]
+fn an_operator_is_used_where_its_sign_stands() {
+    let project = Project::new("operators");
+    let added = SPEC
+        .replace(
+            "use lib.Dec.{leb}\n",
+            "use lib.Dec.{leb}\nuse lib.ListN.{[], _+_, _-_}\n",
+        )
+        .replace("leb n", "leb (n + 1)");
+    project.write("crates/one/specs/A.antt", &added);
+    assert_eq!(
+        project.complaints(),
+        ["`_-_` is imported by crates/one/specs/A.antt and not used."]
+    );
+}
+
+#[test]
 fn a_project_that_can_not_be_read() {
     assert!(definitions::complaints(Path::new("/nowhere")).is_err());
 }

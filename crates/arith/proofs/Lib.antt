@@ -3,3 +3,4 @@ pub mod Rounding
 pub mod Root
 pub mod Search
 pub mod Signs
+pub mod Differences

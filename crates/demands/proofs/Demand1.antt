@@ -1,7 +1,7 @@
 -- Demand 1. Every call is refused by a row of the table, with nothing written, or it reduces a run; and where a row applies, that is the answer.
 use Prim.Native.Nat.{ℕ, _*_, _≤_, _<_}
 use mathlib.Core.Path.{_≡_, refl, sym, _∙_, ap}
-use mathlib.Core.Bool.{Bool, true, false, _||_}
+use mathlib.Core.Bool.{Bool, true, false}
 use mathlib.Core.List.{List}
 use mathlib.Core.Logic.{_⊎_, inl, inr}
 use borrow.Author.Tests.{ltb-true, ltb-false, lt-ltb, le-ltb}

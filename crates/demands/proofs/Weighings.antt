@@ -1,14 +1,12 @@
 -- Rule 17 judges a weighing by the difference of its final weights and by its net.
-use Prim.Native.Nat.{ℕ, _+_, _-_, _*_, _≤_, _<_}
+use Prim.Native.Nat.{ℕ, _+_, _-_, _*_, _<_}
 use mathlib.Core.Path.{_≡_, refl, sym, _∙_}
 use mathlib.Core.Logic.{_↔_}
-use native.Mathlib.Nat.{lt-of-not-le}
-use native.Mathlib.Decide.{decLe}
 use native.Mathlib.Omega.{arith}
-use borrow.Author.Tests.{lt-ltb, le-ltb}
 use lib.Dec.{ltb→lt, lt→ltb}
 use lib.IntN.{pos, subℕ}
 use lib.Signed.{_<ℤ_}
+use Rattle.arith.proofs.Differences.{either-sign}
 use Rattle.records.specs.declared.Run.{Run}
 use Rattle.records.specs.declared.Weighing.{Weighing}
 use Rattle.records.specs.Records.{weighingOf}
@@ -23,14 +21,10 @@ use Rattle.demands.specs.Weighings.{BreaksWeighing, Unsteady, JudgedByNe
 
 -- a less b is below m exactly when a is below b and m together
 less-below : (a b m : ℕ) → (subℕ a b <ℤ pos m) ↔ (a < b + m)
-less-below a b m = go (decLe b a)
-  where
-    go : Dec (b ≤ a) → (subℕ a b <ℤ pos m) ↔ (a < b + m)
-    go (yes some) =
-        rw (le-ltb a b some)
-        (λ h. omega (arith, ltb→lt (a - b) m (h .lt)), λ h. record { lt = lt→ltb (a - b) m (omega arith) })
-    go (no lost) =
-        rw (lt-ltb a b (lt-of-not-le lost)) (λ h. omega (arith, lt-of-not-le lost), λ h. record { lt = tt })
+less-below a b m =
+    either-sign (λ z. (z <ℤ pos m) ↔ (a < b + m)) a b
+    (λ some. (λ h. omega (arith, some, ltb→lt (a - b) m (h .lt)), λ h. record { lt = lt→ltb (a - b) m (omega (arith, some)) }))
+    (λ lost. (λ h. omega (arith, lost), λ h. record { lt = tt }))
 
 module _ (r : Run) (ch : Chosen) where
   -- what rule 17 goes by at its place i

@@ -1,5 +1,5 @@
 -- The header's counts and the certificates of a file, and the job that is read from it.
-use Prim.Native.Nat.{ℕ, zero, suc, _≤_, _<_}
+use Prim.Native.Nat.{ℕ, zero, suc, _≤_}
 use mathlib.Core.Path.{_≡_, refl, sym, _∙_, ap}
 use mathlib.Core.List.{List}
 use native.Mathlib.Nat.{lt-suc-self, mul-suc}

@@ -2,15 +2,15 @@
 use Prim.Native.Nat.{ℕ, zero, suc, _-_, _^_, _≤_, _<_}
 use mathlib.Core.Path.{_≡_, refl, sym, _∙_, ap₂}
 use mathlib.Core.Bool.{true, false}
-use native.Mathlib.Nat.{add-zero, sub-zero, lt-of-not-le}
-use native.Mathlib.Decide.{decLe}
+use native.Mathlib.Nat.{add-zero, sub-zero}
 use native.Mathlib.Omega.{arith}
-use borrow.Author.Tests.{lt-ltb, le-ltb}
+use borrow.Author.Tests.{le-ltb}
 use lib.IntN.{ℤ, pos, negsuc, subℕ, pos-ne-negsuc, _-ℤ_}
 use lib.Signed.{ltZ}
 use mir.Facts.{toZ-pos}
 use mir.Syntax.{w64}
 use mir.Val.{SFits, toZ, ofZ}
+use Rattle.arith.proofs.Differences.{either-sign}
 use Rattle.arith.proofs.Signs.{Negative, NotNegative, negative, not-negative}
 use Rattle.sampling.specs.Promise.{CatchOk}
 
@@ -24,7 +24,7 @@ difference a b ha hb = ap₂ _-ℤ_ (toZ-pos w64 ha) (toZ-pos w64 hb) ∙ sub-si
 
 -- and lies in the catch's range where both do
 pub catch-ok : (a b : ℕ) → a ≤ 32000000 → b ≤ 32000099 → CatchOk (subℕ a b)
-catch-ok a b ha hb = go (decLe b a)
+catch-ok a b ha hb = either-sign CatchOk a b above below
   where
     above : b ≤ a → CatchOk (pos (a - b))
     above h =
@@ -39,10 +39,6 @@ catch-ok a b ha hb = go (decLe b a)
           most = λ n e. absurd (pos-ne-negsuc n _ (sym e));
           least = λ n e. let same : b - suc a ≡ n = cc in omega arith;
         }
-
-    go : Dec (b ≤ a) → CatchOk (subℕ a b)
-    go (yes h) = rw (le-ltb a b h) (above h)
-    go (no f) = rw (lt-ltb a b (lt-of-not-le f)) (below (lt-of-not-le f))
 
 pub catch-fits : (z : ℤ) → CatchOk z → SFits w64 z
 catch-fits (pos n) ok = record { sfits = omega (arith, ok .most n refl) }

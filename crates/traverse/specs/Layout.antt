@@ -1,5 +1,5 @@
 -- The layouts of docs/RULES.md, Traverse layouts: the list of distances of each, and the array that holds them.
-use Prim.Native.Nat.{ℕ, zero, suc, _≤_}
+use Prim.Native.Nat.{ℕ, zero, suc}
 use mathlib.Core.List.{List, [], _∷_, _++_}
 use mathlib.Core.Path.{_≡_}
 use lib.ListN.{length}
@@ -13,11 +13,11 @@ unfoldable pub eachTo : (ℕ → List ℕ) → ℕ → List ℕ
 eachTo f zero = []
 eachTo f (suc n) = eachTo f n ++ f (suc n)
 
--- the distances of all points, across the diameter
+-- of a round stack: the distance of each point, across the diameter
 unfoldable pub roundLayout : ℕ → ℕ → ℕ → List ℕ
 roundLayout n diameter nozzle = eachTo (λ i. distance n diameter nozzle i ∷ []) n
 
--- the two distances of each point, the first side's first; the first side's cell is the fastest count
+-- of a rectangular stack: the two distances of each point, the first side's first; the first side's cell is the fastest count
 unfoldable pub rectangleLayout : ℕ → ℕ → ℕ → List ℕ
 rectangleLayout n first second =
     let columns : ℕ = firstCells n first second in

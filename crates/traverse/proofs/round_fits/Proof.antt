@@ -1,5 +1,4 @@
 -- The checks in order; the first that fails decides.
-use mathlib.Core.Path.{_∙_}
 use borrow.Author.Needs.{needs}
 use borrow.Author.Tests.{not-true, not-false}
 use Rattle.readings.proofs.EarlyAnswers.{fails, passes}
