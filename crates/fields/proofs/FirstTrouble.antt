@@ -1,9 +1,9 @@
 -- The laws of the first trouble met: of a record's rows, and of records in a row.
 use Prim.Native.Nat.{ℕ, zero, suc, _+_, _≤_, _<_}
-use mathlib.Core.Path.{_≡_, refl, sym, _∙_, ap}
+use mathlib.Core.Path.{_≡_, refl, sym, _∙_, ap, ap₂}
 use mathlib.Core.Bool.{Bool, true, false, false≢true, _&&_}
 use mathlib.Core.Logic.{⊎-elim}
-use mathlib.Core.List.{List, [], _∷_}
+use mathlib.Core.List.{List, [], _∷_, _++_}
 use native.Mathlib.Nat.{zero-add, le-of-suc-le-suc, le-antisymm, eq-or-lt-of-le}
 use native.Mathlib.Numerals.{add-one}
 use native.Mathlib.Omega.{arith}
@@ -11,7 +11,7 @@ use borrow.Author.Tests.{leb-true}
 use lib.Dec.{leb}
 use Rattle.fields.specs.declared.trouble.Trouble.{Trouble}
 use Rattle.fields.specs.declared.trouble.Trouble.the-variants.{Clear, At}
-use Rattle.fields.specs.Trouble.{first, troubleUnless, unless, Row, AllGood, checks, troublePlace, from, upTo}
+use Rattle.fields.specs.Trouble.{first, troubleUnless, unless, Row, moved, AllGood, checks, troublePlace, from, upTo}
 
 -- Clear is no trouble at any place
 pub clear-not-at : {X : Type 0} {t : Trouble} {n p : ℕ} → t ≡ Clear → t ≡ At n p → X
@@ -79,6 +79,43 @@ checks-first t [] = sym (clear-last t)
 checks-first t (r ∷ rs) =
     let own = troubleUnless (r .ok) (r .number) (r .place) in
     checks-first (first t own) rs ∙ first-assoc t own (checks Clear rs) ∙ ap (first t) (sym (checks-first own rs))
+
+-- rows and then others: those of the first, and then the others'
+checks-both : (t : Trouble) (rs qs : List Row) → checks t (rs ++ qs) ≡ checks (checks t rs) qs
+unfolding checks
+checks-both t [] qs = refl
+checks-both t (r ∷ rs) qs = checks-both _ rs qs
+
+-- rows moved along: their trouble moved along
+checks-moved : (m : ℕ) (t : Trouble) (rs : List Row) → checks (from m t) (moved m rs) ≡ from m (checks t rs)
+unfolding checks first
+checks-moved m t [] = refl
+checks-moved m t (r ∷ rs) =
+    ap (λ (u : Trouble). checks u (moved m rs)) (along t (r .ok)) ∙ checks-moved m (unless t (r .ok) (r .number) (r .place)) rs
+  where
+    along : (t : Trouble) (ok : Bool) → unless (from m t) ok (r .number) (m + r .place) ≡ from m (unless t ok (r .number) (r .place))
+    along (At n p) ok = refl
+    along Clear true = refl
+    along Clear false = refl
+
+-- rows and then others moved along: the trouble of the first, or else that of the others, moved along
+checks-then : (rs : List Row) (m : ℕ) (qs : List Row) → checks Clear (rs ++ moved m qs) ≡ first (checks Clear rs) (from m (checks Clear qs))
+checks-then rs m qs = checks-both Clear rs (moved m qs) ∙ checks-first _ (moved m qs) ∙ ap (first (checks Clear rs)) (checks-moved m Clear qs)
+
+-- so the code answers the trouble r of the first early ..
+pub then-met : (rs : List Row) (m : ℕ) (qs : List Row) {r : Trouble} {n p : ℕ} → r ≡ checks Clear rs → r ≡ At n p → r ≡ checks Clear (rs ++ moved m qs)
+then-met rs m qs e told = first-met _ e told ∙ sym (checks-then rs m qs)
+
+-- .. or q was clear, and it answers that of the others
+pub then-passed :
+    (rs : List Row) (m : ℕ) (qs : List Row) {q own r : Trouble} {l : ℕ}
+    → q ≡ checks Clear rs
+    → q ≡ Clear
+    → own ≡ checks Clear qs
+    → l ≡ m
+    → r ≡ from l own
+    → r ≡ checks Clear (rs ++ moved m qs)
+then-passed rs m qs e told others along f = first-passed e told (f ∙ ap₂ from along others) ∙ sym (checks-then rs m qs)
 
 pub checks-clear : (rs : List Row) → checks Clear rs ≡ Clear → AllGood rs
 unfolding checks first

@@ -26,8 +26,8 @@ module _ (s : List ℕ) (at size : ℕ) (rows : List Row) {t : List ℕ} (rest :
   whole-at h e f = rw (le-leb size (length (drop at s)) (rw rest at h), ← e) f
 
   -- no place of it is out of reach
-  pub reach-at : size ≤ length t → length s < 2 ^ 63 → 1 ≤ size → size ≤ 64 → each (λ n p. leb p size) rows ≡ true → {own : Trouble} → own ≡ checks Clear rows → at + troublePlace own < 2 ^ 64
-  reach-at h long some small low {own} e =
+  pub reach-at : size ≤ length t → length s < 2 ^ 63 → 1 ≤ size → each (λ n p. leb p size) rows ≡ true → {own : Trouble} → own ≡ checks Clear rows → at + troublePlace own < 2 ^ 64
+  reach-at h long some low {own} e =
       let reach : troublePlace own ≤ size = rw e (checks-reach size rows low) in
       let left = ap length rest ∙ length-drop at s in
       omega (arith, left)

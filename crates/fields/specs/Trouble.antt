@@ -69,6 +69,11 @@ count place ok = record { number = countRange; place = place; ok = ok }
 abbrev pub field : ℕ → Bool → Row
 field place ok = record { number = fieldRange; place = place; ok = ok }
 
+-- rows moved along
+abbrev pub moved : ℕ → List Row → List Row
+moved m [] = []
+moved m (r ∷ rs) = record { number = r .number; place = m + r .place; ok = r .ok } ∷ moved m rs
+
 -- every field is good
 abbrev pub AllGood : List Row → Type 0
 AllGood [] = Unit {0}

@@ -4,24 +4,27 @@ use mathlib.Core.Path.{_≡_, subst}
 use mathlib.Core.Bool.{true}
 use mathlib.Core.List.{List}
 use lib.ListN.{drop}
+use Rattle.opening.specs.Opening.{versionOf}
 use Rattle.fields.specs.declared.trouble.Trouble.the-variants.{Clear}
-use Rattle.fields.specs.Numbers.{byteAt}
 use Rattle.fields.proofs.RecordTrouble.{good-at}
 use Rattle.records.specs.InRange.{CertificateOk, HeaderOk}
-use Rattle.heads.specs.Values.{certificateSize, runHeaderSize, certificateAt, headerAt}
+use Rattle.heads.specs.Values.{certificateSize, runHeaderSize, spareByte, certificateAt, headerAt}
 use Rattle.heads.specs.Rows.{goodFirst, goodLater, certificateRows, headerRows, certificateTrouble, headerTrouble}
 
 pub certificate-ok : (s : List ℕ) (at : ℕ) → certificateTrouble s at ≡ Clear → CertificateOk (certificateAt s at)
 certificate-ok s at e =
     let c = certificateAt s at in
-    let good = good-at s at certificateSize (certificateRows c) e in
-    let first : goodFirst (c .kind) (c .first) ≡ true = good .1 .1 .1 .0 in
-    let second : goodLater (c .kind) (c .second) ≡ true = good .1 .1 .1 .1 .0 in
-    let third : goodLater (c .kind) (c .third) ≡ true = good .1 .1 .1 .1 .1 .0 in
+    let v = versionOf s in
+    let good = good-at s at (certificateSize v) (certificateRows v c) e in
+    let values = good .1 .1 .1 .1 in
+    let first : goodFirst (c .kind) (c .first) ≡ true = values .0 in
+    let second : goodLater (c .kind) (c .second) ≡ true = values .1 .0 in
+    let third : goodLater (c .kind) (c .third) ≡ true = values .1 .1 .0 in
     record {
       kind = good .0;
       maker = good .1 .0;
       serial = good .1 .1 .0;
+      letter = good .1 .1 .1 .0;
       factor = λ k. subst (λ (n : ℕ). goodFirst n (c .first) ≡ true) k first;
       coefficient = λ k. subst (λ (n : ℕ). goodFirst n (c .first) ≡ true) k first;
       diameters = λ k.
@@ -34,8 +37,9 @@ certificate-ok s at e =
 
 pub header-ok : (s : List ℕ) (at : ℕ) → headerTrouble s at ≡ Clear → HeaderOk (headerAt s at)
 header-ok s at e =
-    let good = good-at s at runHeaderSize (headerRows (headerAt s at) (byteAt (drop at s) 63)) e in
-    let later = good .1 .1 .1 .1 .1 .1 .1 in
+    let v = versionOf s in
+    let good = good-at s at (runHeaderSize v) (headerRows v (headerAt s at) (spareByte v (drop at s))) e in
+    let later = good .1 .1 .1 .1 .1 .1 .1 .1 .1 .1 in
     let stack = later .1 .1 .1 .1 .1 .1 .1 in
     let acetone = stack .1 .1 .1 in
     let counts = acetone .1 .1 .1 in

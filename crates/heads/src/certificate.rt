@@ -1,4 +1,4 @@
-// A certificate, 16 bytes.
+// A certificate, 16 bytes, in version 2 17.
 
 use crate::identity;
 use fields::numbers;
@@ -8,37 +8,56 @@ use readings::certificates::Coefficient;
 use readings::certificates::Factor;
 use readings::certificates::NozzleDiameter;
 use readings::certificates::Unused;
+use readings::headers::Version;
 use records::Certificate;
 ghost use mathlib.Core.Path.{_≡_};
-ghost use Prim.Native.Nat.{_+_, _≤_};
+ghost use Prim.Native.Nat.{_+_, _^_, _<_, _≤_};
 ghost use lib.ListN.{length};
 ghost use Rattle.fields.specs.declared.trouble.Trouble.the-variants.{Clear};
 ghost use Rattle.fields.specs.Trouble.{checks};
+ghost use Rattle.opening.specs.Opening.{versionOf};
 ghost use Rattle.heads.specs.Values.{certificateSize, certificate, certificatePlace, certificateOf};
-ghost use Rattle.heads.specs.Rows.{goodFirst, goodLater, certificateRows, certificateTrouble};
+ghost use Rattle.heads.specs.Rows.{goodFirst, goodLater, valueRows, certificateRows, certificateTrouble};
 
-pub const SIZE: usize = 16;
+// Its bytes without the letter.
+const SIZE: usize = 16;
 
-pub fn certificate(t: &[u8]) -> Certificate
-    requires { ⌜ certificateSize ≤ length (now t) ⌝ }
-    ensures { λ r. ⌜ r ≡ certificate (now (t .entry)) ⌝ }
+// How many bytes it has in a file of that version.
+fn size(v: Version) -> usize
+    ensures { λ r. ⌜ r ≡ certificateSize v ⌝ }
 {
+    SIZE + opening::letters(v, 1)
+}
+
+pub fn certificate(t: &[u8], v: Version) -> Certificate
+    requires { ⌜ certificateSize v ≤ length (now t) ⌝ }
+    ensures { λ r. ⌜ r ≡ certificate v (now (t .entry)) ⌝ }
+{
+    let rest = identity::behind(t, v, 1);
     Certificate {
         kind: numbers::byte(t, 0),
-        identity: identity::identity(t, 1),
-        day: numbers::u16_at(t, 8),
-        first: numbers::u16_at(t, 10),
-        second: numbers::u16_at(t, 12),
-        third: numbers::u16_at(t, 14),
+        identity: identity::identity(t, v, 1),
+        day: numbers::u16_at(rest, 8),
+        first: numbers::u16_at(rest, 10),
+        second: numbers::u16_at(rest, 12),
+        third: numbers::u16_at(rest, 14),
     }
 }
 
-// Certificate k of a file, counted from 0.
-pub fn nth(s: &[u8], k: usize) -> Certificate
-    requires { ⌜ certificatePlace k + certificateSize ≤ length (now s) ⌝ }
+// Where certificate k of a file stands, counted from 0; also the place behind the first k.
+pub fn place(v: Version, k: usize) -> usize
+    requires { ⌜ certificatePlace v k < 2 ^ 64 ⌝ }
+    ensures { λ r. ⌜ r ≡ certificatePlace v k ⌝ }
+{
+    opening::SIZE + SIZE * k + opening::letters(v, k)
+}
+
+// Certificate k of a file of that version.
+pub fn nth(s: &[u8], v: Version, k: usize) -> Certificate
+    requires { ⌜ (v ≡ versionOf (now s)) × (certificatePlace v k + certificateSize v ≤ length (now s)) ⌝ }
     ensures { λ r. ⌜ r ≡ certificateOf (now (s .entry)) k ⌝ }
 {
-    certificate(&s[opening::SIZE + SIZE * k..])
+    certificate(&s[place(v, k)..], v)
 }
 
 // Whether the first value is in range, which goes by the kind.
@@ -64,23 +83,34 @@ fn good_later(kind: u8, value: u16) -> bool
     Unused::check(value)
 }
 
-fn rows(c: Certificate) -> Trouble
-    ensures { λ r. ⌜ r ≡ checks Clear (certificateRows c) ⌝ }
+fn value_rows(c: Certificate) -> Trouble
+    ensures { λ r. ⌜ r ≡ checks Clear (valueRows c) ⌝ }
 {
     let t = Trouble::Clear;
-    let t = t.unless(CertificateKind::check(c.kind), Trouble::FIELD, 0);
-    let t = identity::rows(t, c.identity, 1);
     let t = t.unless(good_first(c.kind, c.first), Trouble::FIELD, 10);
     let t = t.unless(good_later(c.kind, c.second), Trouble::FIELD, 12);
     t.unless(good_later(c.kind, c.third), Trouble::FIELD, 14)
 }
 
-pub fn trouble(s: &[u8], at: usize) -> Trouble
+fn rows(v: Version, c: Certificate) -> Trouble
+    ensures { λ r. ⌜ r ≡ checks Clear (certificateRows v c) ⌝ }
+{
+    let t = Trouble::Clear;
+    let t = t.unless(CertificateKind::check(c.kind), Trouble::FIELD, 0);
+    let t = identity::rows(t, c.identity, 1);
+    let Trouble::Clear = t else {
+        return t;
+    };
+    value_rows(c).from(opening::letters(v, 1))
+}
+
+pub fn trouble(s: &[u8], v: Version, at: usize) -> Trouble
+    requires { ⌜ v ≡ versionOf (now s) ⌝ }
     ensures { λ r. ⌜ r ≡ certificateTrouble (now (s .entry)) at ⌝ }
 {
     let t = numbers::tail(s, at);
-    if t.len() < SIZE {
+    if t.len() < size(v) {
         return Trouble::At(Trouble::INCOMPLETE, s.len());
     }
-    rows(certificate(t)).from(at)
+    rows(v, certificate(t, v)).from(at)
 }

@@ -1,9 +1,10 @@
-// A run's header, 64 bytes, before its points, segments and weighings.
+// A run's header, 64 bytes, in version 2 67, before its points, segments and weighings.
 
 use crate::identity;
 use fields::numbers;
 use fields::trouble::Trouble;
 use readings::certificates::Unused;
+use readings::headers::Version;
 use readings::runs::AcetoneDensity;
 use readings::runs::Barometer;
 use readings::runs::BlankVolume;
@@ -29,13 +30,23 @@ ghost use Prim.Native.Nat.{_≤_};
 ghost use lib.ListN.{length};
 ghost use Rattle.fields.specs.declared.trouble.Trouble.the-variants.{Clear};
 ghost use Rattle.fields.specs.Trouble.{checks};
-ghost use Rattle.heads.specs.Values.{runHeaderSize, site, acetone, counts, header};
-ghost use Rattle.heads.specs.Rows.{headerRows, headerTrouble};
+ghost use Rattle.readings.specs.declared.headers.Version.the-variants.{One};
+ghost use Rattle.opening.specs.Opening.{versionOf};
+ghost use Rattle.heads.specs.Values.{runHeaderSize, site, acetone, counts, headerWith, header};
+ghost use Rattle.heads.specs.Rows.{readingRows, headerRows, headerTrouble};
 
-pub const SIZE: usize = 64;
+// Its bytes without the letters.
+const SIZE: usize = 64;
+
+// How many bytes it has in a file of that version.
+pub fn size(v: Version) -> usize
+    ensures { λ r. ⌜ r ≡ runHeaderSize v ⌝ }
+{
+    SIZE + opening::letters(v, 3)
+}
 
 fn site(t: &[u8]) -> Site
-    requires { ⌜ runHeaderSize ≤ length (now t) ⌝ }
+    requires { ⌜ runHeaderSize One ≤ length (now t) ⌝ }
     ensures { λ r. ⌜ r ≡ site (now (t .entry)) ⌝ }
 {
     Site {
@@ -48,7 +59,7 @@ fn site(t: &[u8]) -> Site
 }
 
 fn acetone(t: &[u8]) -> Acetone
-    requires { ⌜ runHeaderSize ≤ length (now t) ⌝ }
+    requires { ⌜ runHeaderSize One ≤ length (now t) ⌝ }
     ensures { λ r. ⌜ r ≡ acetone (now (t .entry)) ⌝ }
 {
     Acetone {
@@ -60,7 +71,7 @@ fn acetone(t: &[u8]) -> Acetone
 }
 
 pub fn counts(t: &[u8]) -> Counts
-    requires { ⌜ runHeaderSize ≤ length (now t) ⌝ }
+    requires { ⌜ runHeaderSize One ≤ length (now t) ⌝ }
     ensures { λ r. ⌜ r ≡ counts (now (t .entry)) ⌝ }
 {
     Counts {
@@ -70,37 +81,41 @@ pub fn counts(t: &[u8]) -> Counts
     }
 }
 
-pub fn header(t: &[u8]) -> RunHeader
-    requires { ⌜ runHeaderSize ≤ length (now t) ⌝ }
-    ensures { λ r. ⌜ r ≡ header (now (t .entry)) ⌝ }
+// The header, `rest` standing behind its identities.
+fn header_with(t: &[u8], rest: &[u8], v: Version) -> RunHeader
+    requires { ⌜ (runHeaderSize v ≤ length (now t)) × (runHeaderSize One ≤ length (now rest)) ⌝ }
+    ensures { λ r. ⌜ r ≡ headerWith v (now (t .entry)) (now (rest .entry)) ⌝ }
 {
     RunHeader {
         number: numbers::u16_at(t, 0),
         day: numbers::u16_at(t, 2),
-        meter: identity::identity(t, 4),
-        pitot: identity::identity(t, 11),
-        nozzle: identity::identity(t, 18),
-        pb: numbers::u16_at(t, 25),
-        pg: numbers::i16_at(t, 27),
-        co2: numbers::u16_at(t, 29),
-        o2: numbers::u16_at(t, 31),
-        first: numbers::u32_at(t, 33),
-        last: numbers::u32_at(t, 37),
-        water: numbers::u16_at(t, 41),
-        site: site(t),
-        acetone: acetone(t),
-        counts: counts(t),
+        meter: identity::identity(t, v, 4),
+        pitot: identity::identity(t, v, 11 + opening::letters(v, 1)),
+        nozzle: identity::identity(t, v, 18 + opening::letters(v, 2)),
+        pb: numbers::u16_at(rest, 25),
+        pg: numbers::i16_at(rest, 27),
+        co2: numbers::u16_at(rest, 29),
+        o2: numbers::u16_at(rest, 31),
+        first: numbers::u32_at(rest, 33),
+        last: numbers::u32_at(rest, 37),
+        water: numbers::u16_at(rest, 41),
+        site: site(rest),
+        acetone: acetone(rest),
+        counts: counts(rest),
     }
 }
 
-fn rows(h: RunHeader, spare: u8) -> Trouble
-    ensures { λ r. ⌜ r ≡ checks Clear (headerRows h spare) ⌝ }
+pub fn header(t: &[u8], v: Version) -> RunHeader
+    requires { ⌜ runHeaderSize v ≤ length (now t) ⌝ }
+    ensures { λ r. ⌜ r ≡ header v (now (t .entry)) ⌝ }
+{
+    header_with(t, identity::behind(t, v, 3), v)
+}
+
+fn reading_rows(h: RunHeader, spare: u8) -> Trouble
+    ensures { λ r. ⌜ r ≡ checks Clear (readingRows h spare) ⌝ }
 {
     let t = Trouble::Clear;
-    let t = t.unless(RunNumber::check(h.number), Trouble::FIELD, 0);
-    let t = identity::rows(t, h.meter, 4);
-    let t = identity::rows(t, h.pitot, 11);
-    let t = identity::rows(t, h.nozzle, 18);
     let t = t.unless(Barometer::check(h.pb), Trouble::FIELD, 25);
     let t = t.unless(StaticPressure::check(h.pg), Trouble::FIELD, 27);
     let t = t.unless(CarbonDioxide::check(h.co2), Trouble::FIELD, 29);
@@ -124,12 +139,28 @@ fn rows(h: RunHeader, spare: u8) -> Trouble
     t.unless(Unused::check(spare as u16), Trouble::FIELD, 63)
 }
 
-pub fn trouble(s: &[u8], at: usize) -> Trouble
+fn rows(v: Version, h: RunHeader, spare: u8) -> Trouble
+    ensures { λ r. ⌜ r ≡ checks Clear (headerRows v h spare) ⌝ }
+{
+    let t = Trouble::Clear;
+    let t = t.unless(RunNumber::check(h.number), Trouble::FIELD, 0);
+    let t = identity::rows(t, h.meter, 4);
+    let t = identity::rows(t, h.pitot, 11 + opening::letters(v, 1));
+    let t = identity::rows(t, h.nozzle, 18 + opening::letters(v, 2));
+    let Trouble::Clear = t else {
+        return t;
+    };
+    reading_rows(h, spare).from(opening::letters(v, 3))
+}
+
+pub fn trouble(s: &[u8], v: Version, at: usize) -> Trouble
+    requires { ⌜ v ≡ versionOf (now s) ⌝ }
     ensures { λ r. ⌜ r ≡ headerTrouble (now (s .entry)) at ⌝ }
 {
     let t = numbers::tail(s, at);
-    if t.len() < SIZE {
+    if t.len() < size(v) {
         return Trouble::At(Trouble::INCOMPLETE, s.len());
     }
-    rows(header(t), numbers::byte(t, 63)).from(at)
+    let spare = numbers::byte(identity::behind(t, v, 3), 63);
+    rows(v, header(t, v), spare).from(at)
 }

@@ -1,23 +1,37 @@
-// Maker and serial, 7 bytes, wherever a record names a meter, a pitot tube or a nozzle.
+// Maker, serial and letter, 8 bytes, or in version 1 7 bytes without the letter, wherever a record names a meter, a pitot tube or a
+// nozzle.
 
 use fields::numbers;
 use fields::trouble::Trouble;
 use readings::certificates::Letter;
+use readings::certificates::RebuildLetter;
 use readings::certificates::Serial;
+use readings::headers::Version;
 use records::Identity;
 use records::Maker;
 ghost use mathlib.Core.Path.{_≡_};
-ghost use Prim.Native.Nat.{_+_, _≤_};
+ghost use Prim.Native.Nat.{_+_, _^_, _<_, _≤_};
 ghost use lib.ListN.{length};
 ghost use Rattle.fields.specs.Trouble.{checks};
 ghost use Rattle.records.specs.InRange.{makerLetters};
-ghost use Rattle.heads.specs.Values.{identitySize, runHeaderSize, identity};
+ghost use Rattle.heads.specs.Values.{letterAt, identity, behind};
 ghost use Rattle.heads.specs.Rows.{identityRows};
 
+// The letter at a place of a record.
+fn letter(t: &[u8], v: Version, at: usize) -> u8
+    requires { ⌜ at < length (now t) ⌝ }
+    ensures { λ r. ⌜ r ≡ letterAt v (now (t .entry)) at ⌝ }
+{
+    match v {
+        Version::One => RebuildLetter::NONE,
+        Version::Two => numbers::byte(t, at),
+    }
+}
+
 // The identity at a place of a record.
-pub fn identity(t: &[u8], at: usize) -> Identity
-    requires { ⌜ at + identitySize ≤ length (now t) ⌝ }
-    ensures { λ r. ⌜ r ≡ identity (now (t .entry)) at ⌝ }
+pub fn identity(t: &[u8], v: Version, at: usize) -> Identity
+    requires { ⌜ at + 8 ≤ length (now t) ⌝ }
+    ensures { λ r. ⌜ r ≡ identity v (now (t .entry)) at ⌝ }
 {
     Identity {
         maker: Maker {
@@ -26,7 +40,15 @@ pub fn identity(t: &[u8], at: usize) -> Identity
             third: numbers::byte(t, at + 2),
         },
         serial: numbers::u32_at(t, at + 3),
+        letter: letter(t, v, at + 7),
     }
+}
+
+// A record without the bytes of as many letters as `n` identities have: a field behind them has its place of version 1 there.
+pub fn behind(t: &[u8], v: Version, n: usize) -> &[u8]
+    ensures { λ r. ⌜ now r ≡ behind v n (now (t .entry)) ⌝ }
+{
+    numbers::tail(t, opening::letters(v, n))
 }
 
 fn maker_letters(m: Maker) -> bool
@@ -42,9 +64,10 @@ fn maker_letters(m: Maker) -> bool
 }
 
 pub fn rows(met: Trouble, id: Identity, at: usize) -> Trouble
-    requires { ⌜ at ≤ runHeaderSize ⌝ }
+    requires { ⌜ at + 7 < 2 ^ 64 ⌝ }
     ensures { λ r. ⌜ r ≡ checks met (identityRows at id) ⌝ }
 {
     let after = met.unless(maker_letters(id.maker), Trouble::FIELD, at);
-    after.unless(Serial::check(id.serial), Trouble::FIELD, at + 3)
+    let after = after.unless(Serial::check(id.serial), Trouble::FIELD, at + 3);
+    after.unless(RebuildLetter::check(id.letter), Trouble::FIELD, at + 7)
 }

@@ -1,20 +1,21 @@
-// The header of a job file: mark, version, and how many certificates and runs follow; and the trouble met in it, by which a
-// file that is no job is told before anything else of it is looked at. Relies on the numbers and the trouble of fields and on
-// the kinds of reading.
+// The header of a job file: mark, version, and how many certificates and runs follow; what the version says of the records behind
+// it; and the trouble met in it, by which a file that is no job is told before anything else of it is looked at. Relies on the
+// numbers and the trouble of fields and on the kinds of reading.
 
 use fields::numbers;
 use fields::trouble::Trouble;
 use readings::headers::CertificateCount;
 use readings::headers::RunCount;
+use readings::headers::Version;
 ghost use mathlib.Core.Path.{_≡_};
 ghost use Prim.Native.Nat.{_≤_};
 ghost use lib.ListN.{length};
-ghost use Rattle.opening.specs.Opening.{fileHeaderSize, marked, fileTrouble};
+ghost use Rattle.opening.specs.Opening.{fileHeaderSize, marked, versionOf, letters, fileTrouble};
 
 // How many bytes it has; the certificates stand behind it.
 pub const SIZE: usize = 9;
 
-const VERSION: u16 = 1;
+const VERSION_AT: usize = 3;
 
 // Where the two counts stand.
 pub const CERTIFICATES_AT: usize = 5;
@@ -35,6 +36,27 @@ fn marked(s: &[u8]) -> bool
     numbers::byte(s, 2) == 74
 }
 
+// The version that the file says.
+pub fn version(s: &[u8]) -> Version
+    requires { ⌜ fileHeaderSize ≤ length (now s) ⌝ }
+    ensures { λ r. ⌜ r ≡ versionOf (now (s .entry)) ⌝ }
+{
+    if numbers::u16_at(s, VERSION_AT) == 2 {
+        return Version::Two;
+    }
+    Version::One
+}
+
+// How many letters `n` identities have.
+pub fn letters(v: Version, n: usize) -> usize
+    ensures { λ r. ⌜ r ≡ letters v n ⌝ }
+{
+    match v {
+        Version::One => 0,
+        Version::Two => n,
+    }
+}
+
 // The first trouble met in the header.
 pub fn trouble(s: &[u8]) -> Trouble
     ensures { λ r. ⌜ r ≡ fileTrouble (now (s .entry)) ⌝ }
@@ -44,7 +66,11 @@ pub fn trouble(s: &[u8]) -> Trouble
     }
     let t = Trouble::Clear;
     let t = t.unless(marked(s), Trouble::MARK, 0);
-    let t = t.unless(numbers::u16_at(s, 3) == VERSION, Trouble::VERSION, 3);
+    let t = t.unless(
+        Version::check(numbers::u16_at(s, VERSION_AT)),
+        Trouble::VERSION,
+        VERSION_AT,
+    );
     let t = t.unless(
         CertificateCount::check(numbers::u16_at(s, CERTIFICATES_AT)),
         Trouble::COUNT,

@@ -2,7 +2,7 @@
 
 use crate::range;
 ghost use mathlib.Core.Path.{_≡_};
-ghost use Rattle.readings.specs.Ranges.{certificateKind, letter, serial, meterFactor, coefficient, nozzleDiameter, unused};
+ghost use Rattle.readings.specs.Ranges.{certificateKind, letter, serial, rebuildLetter, meterFactor, coefficient, nozzleDiameter, unused};
 
 // What a certificate is of.
 pub struct CertificateKind;
@@ -56,6 +56,22 @@ impl Serial {
         ensures { λ r. ⌜ r ≡ serial value ⌝ }
     {
         range::holds(value as u64, Serial::LEAST as u64, Serial::GREATEST as u64)
+    }
+}
+
+// The letter that a rebuild gives, A to Z, or none.
+pub struct RebuildLetter;
+
+impl RebuildLetter {
+    pub const NONE: u8 = 0;
+
+    pub fn check(value: u8) -> bool
+        ensures { λ r. ⌜ r ≡ rebuildLetter value ⌝ }
+    {
+        if value == RebuildLetter::NONE {
+            return true;
+        }
+        Letter::check(value)
     }
 }
 

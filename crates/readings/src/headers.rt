@@ -1,8 +1,30 @@
-// The counts of a job's header.
+// What a job's header says: its version, and how many certificates and runs follow.
 
 use crate::range;
 ghost use mathlib.Core.Path.{_≡_};
-ghost use Rattle.readings.specs.Ranges.{certificateCount, runCount};
+ghost use Rattle.readings.specs.Ranges.{version, certificateCount, runCount};
+
+// A job file's version. From the second on, a letter follows each serial number.
+pub enum Version {
+    One,
+    Two,
+}
+
+impl Version {
+    pub const LEAST: u16 = 1;
+
+    pub const GREATEST: u16 = 2;
+
+    pub fn check(value: u16) -> bool
+        ensures { λ r. ⌜ r ≡ version value ⌝ }
+    {
+        range::holds(
+            value as u64,
+            Version::LEAST as u64,
+            Version::GREATEST as u64,
+        )
+    }
+}
 
 // How many certificates a job holds.
 pub struct CertificateCount;

@@ -10,12 +10,13 @@ use Rattle.records.specs.declared.Segment.{Segment}
 use Rattle.records.specs.declared.Weighing.{Weighing}
 use Rattle.records.specs.declared.Run.{Run}
 
--- the same serial and the same three letters
+-- the same serial, the same three letters of the maker, and the same letter of a rebuild
 unfoldable pub sameIdentity : Identity → Identity → Bool
 sameIdentity a b =
     eqb (a .serial) (b .serial)
     && (eqb (a .maker .first) (b .maker .first)
-    && (eqb (a .maker .second) (b .maker .second) && eqb (a .maker .third) (b .maker .third)))
+    && (eqb (a .maker .second) (b .maker .second)
+    && (eqb (a .maker .third) (b .maker .third) && eqb (a .letter) (b .letter))))
 
 -- what stands past the last point, segment and weighing
 abbrev pub noPoint : Point

@@ -3,16 +3,16 @@ use Prim.Native.Nat.{ℕ}
 use mathlib.Core.List.{List, [], _∷_, _++_}
 use lib.IntN.{pos, negsuc}
 use lib.ListN.{replicate}
-use Rattle.readings.specs.Ranges.{meter, pitot, nozzle, roundShape, filterKind, rinseKind}
+use Rattle.readings.specs.Ranges.{meter, pitot, nozzle, noLetter, roundShape, filterKind, rinseKind}
 use Rattle.records.specs.declared.Certificate.{Certificate}
 use Rattle.records.specs.declared.Identity.{Identity}
 use Rattle.records.specs.declared.Point.{Point}
 use Rattle.records.specs.declared.Run.{Run}
 use Rattle.records.specs.Records.{noPoint, noSegment, noWeighing}
 
--- maker ABC with a serial number
+-- maker ABC with a serial number, never rebuilt
 abbrev pub abc : ℕ → Identity
-abc n = record { maker = record { first = 65; second = 66; third = 67 }; serial = n }
+abc n = record { maker = record { first = 65; second = 66; third = 67 }; serial = n; letter = noLetter }
 
 -- meter ABC 10442: Y 10,000 on day 8990 and 9,800 on day 9020; pitot tube ABC 1: 840; nozzle ABC 2: 250 three times
 abbrev pub workedCertificates : List Certificate

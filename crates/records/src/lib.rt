@@ -14,10 +14,12 @@ pub struct Maker {
     pub third: u8,
 }
 
-// What tells one meter, pitot tube or nozzle from another of its kind. A serial number alone does not.
+// What tells one meter, pitot tube or nozzle from another of its kind. A serial number alone does not; a rebuilt one keeps it and
+// gets another letter, 0 standing for none.
 pub struct Identity {
     pub maker: Maker,
     pub serial: u32,
+    pub letter: u8,
 }
 
 impl Identity {
@@ -33,7 +35,10 @@ impl Identity {
         if self.maker.second != other.maker.second {
             return false;
         }
-        self.maker.third == other.maker.third
+        if self.maker.third != other.maker.third {
+            return false;
+        }
+        self.letter == other.letter
     }
 }
 

@@ -1,11 +1,18 @@
--- One check a row, from the first to the last; the signed field is read back from its bits.
-use mathlib.Core.Path.{refl, _∙_, ap}
+-- One check a row, from the first to the last; those behind the identities are moved along.
+use Prim.Native.Nat.{ℕ, _+_, _≤_}
+use mathlib.Core.Path.{_≡_, refl, _∙_, ap}
+use mathlib.Core.List.{List, _∷_, _++_}
+use native.Mathlib.Omega.{arith}
 use borrow.Author.Needs.{needs}
-use Rattle.fields.specs.Trouble.{checks}
-use Rattle.fields.proofs.FirstTrouble.{step, steps}
-use Rattle.readings.specs.Ranges.{staticPressure}
-use Rattle.heads.specs.Rows.{identityRows}
-use Rattle.fields.proofs.SignedFields.{read-back}
+use Rattle.fields.specs.declared.trouble.Trouble.the-variants.{Clear}
+use Rattle.fields.specs.Trouble.{Row, field, checks, troublePlace}
+use Rattle.fields.proofs.FirstTrouble.{step, steps, then-met, then-passed, checks-reach}
+use Rattle.readings.specs.declared.headers.Version.{Version}
+use Rattle.readings.specs.Ranges.{runNumber}
+use Rattle.records.specs.declared.RunHeader.{RunHeader}
+use Rattle.opening.specs.Opening.{letters}
+use Rattle.opening.proofs.HowMany.{few}
+use Rattle.heads.specs.Rows.{identityRows, readingRows}
 use Rattle.heads.proofs.header.rows.Statement.{statement}
 use Rattle.heads.proofs.header.rows.Tie as tie
 
@@ -18,159 +25,80 @@ unless-requires c κs = search needs
 rows-requires : tie.Need-rows-requires
 rows-requires c κs = search needs
 
+letters-requires : tie.Need-letters-requires
+letters-requires c κs = search needs
+
+add-rows : tie.Need-add-rows
+add-rows c = omega (arith, c .letters .ensures, few (c .before .before .before .before .args .v) 1)
+
 rows-requires-2 : tie.Need-rows-requires-2
-rows-requires-2 c κs = search needs
+rows-requires-2 c κs = omega (arith, c .letters .ensures, few (c .before .before .before .before .args .v) 1)
+
+letters-requires-2 : tie.Need-letters-requires-2
+letters-requires-2 c κs = search needs
+
+add-rows-2 : tie.Need-add-rows-2
+add-rows-2 c = omega (arith, c .letters2 .ensures, few (c .before .before .before .before .before .before .args .v) 2)
 
 rows-requires-3 : tie.Need-rows-requires-3
-rows-requires-3 c κs = search needs
+rows-requires-3 c κs = omega (arith, c .letters2 .ensures, few (c .before .before .before .before .before .before .args .v) 2)
 
-check-requires-2 : tie.Need-check-requires-2
-check-requires-2 c κs = search needs
+enum-told : tie.Need-enum-told
+enum-told c = search needs
 
-unless-requires-2 : tie.Need-unless-requires-2
-unless-requires-2 c κs = search needs
+enum-told-2 : tie.Need-enum-told-2
+enum-told-2 c = search needs
 
-check-requires-3 : tie.Need-check-requires-3
-check-requires-3 c κs = search needs
+-- run number and identities
+abbrev front : Version → RunHeader → List Row
+front v h =
+    field 0 (runNumber (h .number))
+    ∷ identityRows 4 (h .meter)
+    ++ identityRows (11 + letters v 1) (h .pitot)
+    ++ identityRows (18 + letters v 2) (h .nozzle)
 
-unless-requires-3 : tie.Need-unless-requires-3
-unless-requires-3 c κs = search needs
-
-check-requires-4 : tie.Need-check-requires-4
-check-requires-4 c κs = search needs
-
-unless-requires-4 : tie.Need-unless-requires-4
-unless-requires-4 c κs = search needs
-
-check-requires-5 : tie.Need-check-requires-5
-check-requires-5 c κs = search needs
-
-unless-requires-5 : tie.Need-unless-requires-5
-unless-requires-5 c κs = search needs
-
-check-requires-6 : tie.Need-check-requires-6
-check-requires-6 c κs = search needs
-
-unless-requires-6 : tie.Need-unless-requires-6
-unless-requires-6 c κs = search needs
-
-check-requires-7 : tie.Need-check-requires-7
-check-requires-7 c κs = search needs
-
-unless-requires-7 : tie.Need-unless-requires-7
-unless-requires-7 c κs = search needs
-
-check-requires-8 : tie.Need-check-requires-8
-check-requires-8 c κs = search needs
-
-unless-requires-8 : tie.Need-unless-requires-8
-unless-requires-8 c κs = search needs
-
-check-requires-9 : tie.Need-check-requires-9
-check-requires-9 c κs = search needs
-
-unless-requires-9 : tie.Need-unless-requires-9
-unless-requires-9 c κs = search needs
-
-check-requires-10 : tie.Need-check-requires-10
-check-requires-10 c κs = search needs
-
-unless-requires-10 : tie.Need-unless-requires-10
-unless-requires-10 c κs = search needs
-
-check-second-requires : tie.Need-check-second-requires
-check-second-requires c κs = search needs
-
-unless-requires-11 : tie.Need-unless-requires-11
-unless-requires-11 c κs = search needs
-
-check-requires-11 : tie.Need-check-requires-11
-check-requires-11 c κs = search needs
-
-unless-requires-12 : tie.Need-unless-requires-12
-unless-requires-12 c κs = search needs
-
-check-requires-12 : tie.Need-check-requires-12
-check-requires-12 c κs = search needs
-
-unless-requires-13 : tie.Need-unless-requires-13
-unless-requires-13 c κs = search needs
-
-check-requires-13 : tie.Need-check-requires-13
-check-requires-13 c κs = search needs
-
-unless-requires-14 : tie.Need-unless-requires-14
-unless-requires-14 c κs = search needs
-
-check-requires-14 : tie.Need-check-requires-14
-check-requires-14 c κs = search needs
-
-unless-requires-15 : tie.Need-unless-requires-15
-unless-requires-15 c κs = search needs
-
-check-requires-15 : tie.Need-check-requires-15
-check-requires-15 c κs = search needs
-
-unless-requires-16 : tie.Need-unless-requires-16
-unless-requires-16 c κs = search needs
-
-check-requires-16 : tie.Need-check-requires-16
-check-requires-16 c κs = search needs
-
-unless-requires-17 : tie.Need-unless-requires-17
-unless-requires-17 c κs = search needs
-
-check-requires-17 : tie.Need-check-requires-17
-check-requires-17 c κs = search needs
-
-unless-requires-18 : tie.Need-unless-requires-18
-unless-requires-18 c κs = search needs
+met : (c : tie.After-rows3) → c .rows3 .result ≡ checks Clear (front (c .before .before .before .before .before .before .before .args .v) (c .before .before .before .before .before .before .before .args .h))
+unfolding checks
+met c =
+    let pitot = c .before .before in
+    let meter = pitot .before .before in
+    let number = meter .before in
+    let start = number .before .before in
+    let v = start .args .v in
+    let h = start .args .h in
+    let row0 = step 5 0 (number .unless .ensures) refl (number .before .check .ensures) in
+    let row4 = steps (identityRows 4 (h .meter)) (meter .rows .ensures) row0 in
+    let row11 = steps (identityRows (11 + letters v 1) (h .pitot)) (pitot .rows2 .ensures ∙ ap (λ (l : ℕ). checks (meter .rows .result) (identityRows (11 + l) (h .pitot))) (pitot .before .letters .ensures)) row4 in
+    steps (identityRows (18 + letters v 2) (h .nozzle)) (c .rows3 .ensures ∙ ap (λ (l : ℕ). checks (pitot .rows2 .result) (identityRows (18 + l) (h .nozzle))) (c .before .letters2 .ensures)) row11
 
 returns : tie.Need-returns
-unfolding checks
 returns c =
-    let spare = c in
-    let weighings = spare .before .before in
-    let segments = weighings .before .before in
-    let points = segments .before .before in
-    let density = points .before .before in
-    let rinse = density .before .before in
-    let blank = rinse .before .before in
-    let second = blank .before .before in
-    let side = second .before .before in
-    let shape = side .before .before in
-    let water = shape .before .before in
-    let last = water .before .before in
-    let first = last .before .before in
-    let o2 = first .before .before in
-    let co2 = o2 .before .before in
-    let pg = co2 .before .before in
-    let pb = pg .before .before .before in
-    let nozzle = pb .before .before in
-    let pitot = nozzle .before in
-    let meter = pitot .before in
-    let number = meter .before in
-    let row0 = step 5 0 (number .unless .ensures) refl (number .before .check .ensures) in
-    let row4 = steps (identityRows 4 _) (meter .rows .ensures) row0 in
-    let row11 = steps (identityRows 11 _) (pitot .rows2 .ensures) row4 in
-    let row18 = steps (identityRows 18 _) (nozzle .rows3 .ensures) row11 in
-    let row25 = step 5 25 (pb .unless2 .ensures) row18 (pb .before .check2 .ensures) in
-    let row27 = step 5 27 (pg .unless3 .ensures) row25 (pg .before .check3 .ensures ∙ ap staticPressure (read-back (pg .before .before .struct-told .given .1 .1 .1 .1 .1 .1 .0 .1) refl)) in
-    let row29 = step 5 29 (co2 .unless4 .ensures) row27 (co2 .before .check4 .ensures) in
-    let row31 = step 5 31 (o2 .unless5 .ensures) row29 (o2 .before .check5 .ensures) in
-    let row33 = step 5 33 (first .unless6 .ensures) row31 (first .before .check6 .ensures) in
-    let row37 = step 5 37 (last .unless7 .ensures) row33 (last .before .check7 .ensures) in
-    let row41 = step 5 41 (water .unless8 .ensures) row37 (water .before .check8 .ensures) in
-    let row43 = step 5 43 (shape .unless9 .ensures) row41 (shape .before .check9 .ensures) in
-    let row44 = step 5 44 (side .unless10 .ensures) row43 (side .before .check10 .ensures) in
-    let row46 = step 5 46 (second .unless11 .ensures) row44 (second .before .check-second .ensures) in
-    let row54 = step 5 54 (blank .unless12 .ensures) row46 (blank .before .check11 .ensures) in
-    let row56 = step 5 56 (rinse .unless13 .ensures) row54 (rinse .before .check12 .ensures) in
-    let row58 = step 5 58 (density .unless14 .ensures) row56 (density .before .check13 .ensures) in
-    let row60 = step 4 60 (points .unless15 .ensures) row58 (points .before .check14 .ensures) in
-    let row61 = step 4 61 (segments .unless16 .ensures) row60 (segments .before .check15 .ensures) in
-    let row62 = step 4 62 (weighings .unless17 .ensures) row61 (weighings .before .check16 .ensures) in
-    step 5 63 (spare .unless18 .ensures) row62 (spare .before .check17 .ensures)
+    let start = c .before .before .before .before .before .before .before .before .before in
+    let v = start .args .v in
+    then-met (front v (start .args .h)) (letters v 3) (readingRows (start .args .h) (start .args .spare)) (met (c .before .before)) (c .enum-told2 .given .1)
+
+reading-rows-requires : tie.Need-reading-rows-requires
+reading-rows-requires c κs = search needs
+
+letters-requires-3 : tie.Need-letters-requires-3
+letters-requires-3 c κs = search needs
+
+from-requires : tie.Need-from-requires
+from-requires c κs =
+    let start = c .before .before .before .before .before .before .before .before .before .before .before in
+    let own = readingRows (start .args .h) (start .args .spare) in
+    let reach : troublePlace (c .before .reading-rows .result) ≤ 63 = rw (c .before .reading-rows .ensures) (checks-reach 63 own refl) in
+    omega (arith, few (start .args .v) 3, c .letters3 .ensures)
+
+returns-2 : tie.Need-returns-2
+returns-2 c =
+    let named = c .before .before .before in
+    let start = named .before .before .before .before .before .before .before .before .before in
+    let v = start .args .v in
+    then-passed (front v (start .args .h)) (letters v 3) (readingRows (start .args .h) (start .args .spare)) (met (named .before .before)) (named .enum-told .given .1)
+    (c .before .before .reading-rows .ensures)
+    (c .before .letters3 .ensures)
+    (c .from .ensures)
 
 pub rows-spec : {M : Type 1} → statement M
 rows-spec =
@@ -179,40 +107,16 @@ rows-spec =
     check-requires
     unless-requires
     rows-requires
+    letters-requires
+    add-rows
     rows-requires-2
+    letters-requires-2
+    add-rows-2
     rows-requires-3
-    check-requires-2
-    unless-requires-2
-    check-requires-3
-    unless-requires-3
-    check-requires-4
-    unless-requires-4
-    check-requires-5
-    unless-requires-5
-    check-requires-6
-    unless-requires-6
-    check-requires-7
-    unless-requires-7
-    check-requires-8
-    unless-requires-8
-    check-requires-9
-    unless-requires-9
-    check-requires-10
-    unless-requires-10
-    check-second-requires
-    unless-requires-11
-    check-requires-11
-    unless-requires-12
-    check-requires-12
-    unless-requires-13
-    check-requires-13
-    unless-requires-14
-    check-requires-14
-    unless-requires-15
-    check-requires-15
-    unless-requires-16
-    check-requires-16
-    unless-requires-17
-    check-requires-17
-    unless-requires-18
-    returns)
+    enum-told
+    enum-told-2
+    returns
+    reading-rows-requires
+    letters-requires-3
+    from-requires
+    returns-2)

@@ -24,13 +24,22 @@ add-u32-at c = search needs
 u32-at-requires : tie.Need-u32-at-requires
 u32-at-requires c κs = search needs
 
+add-letter : tie.Need-add-letter
+add-letter c = search needs
+
+letter-requires : tie.Need-letter-requires
+letter-requires c κs = search needs
+
 returns : tie.Need-returns
 returns c =
-    let letters = c .before .before .before in
+    let serial = c .before in
+    let third = serial .before in
+    let second = third .before in
     λ i.
     record {
-      maker = record { first = letters .byte .ensures i; second = c .before .before .byte2 .ensures i; third = c .before .byte3 .ensures i };
-      serial = c .u32-at .ensures i;
+      maker = record { first = second .before .byte .ensures i; second = second .byte2 .ensures i; third = third .byte3 .ensures i };
+      serial = serial .u32-at .ensures i;
+      letter = c .letter .ensures i;
     }
 
 pub identity-spec : {M : Type 1} → statement M
@@ -44,4 +53,6 @@ identity-spec =
     byte-requires-3
     add-u32-at
     u32-at-requires
+    add-letter
+    letter-requires
     returns)

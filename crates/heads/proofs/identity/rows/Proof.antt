@@ -21,11 +21,23 @@ add-unless c = search needs
 unless-requires-2 : tie.Need-unless-requires-2
 unless-requires-2 c κs = search needs
 
+check-requires-2 : tie.Need-check-requires-2
+check-requires-2 c κs = search needs
+
+add-unless-2 : tie.Need-add-unless-2
+add-unless-2 c = search needs
+
+unless-requires-3 : tie.Need-unless-requires-3
+unless-requires-3 c κs = search needs
+
 returns : tie.Need-returns
 unfolding checks
 returns c =
-    let maker = c .before .before in
-    step _ _ (c .unless2 .ensures) (step _ _ (maker .unless .ensures) refl (maker .before .maker-letters .ensures)) (c .before .check .ensures)
+    let serial = c .before .before in
+    let maker = serial .before .before in
+    let row0 = step _ _ (maker .unless .ensures) refl (maker .before .maker-letters .ensures) in
+    let row3 = step _ _ (serial .unless2 .ensures) row0 (serial .before .check .ensures) in
+    step _ _ (c .unless3 .ensures) row3 (c .before .check2 .ensures)
 
 pub rows-spec : {M : Type 1} → statement M
 rows-spec =
@@ -36,4 +48,7 @@ rows-spec =
     check-requires
     add-unless
     unless-requires-2
+    check-requires-2
+    add-unless-2
+    unless-requires-3
     returns)

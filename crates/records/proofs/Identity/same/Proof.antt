@@ -24,10 +24,21 @@ returns-3 c =
 returns-4 : tie.Need-returns-4
 unfolding sameIdentity
 returns-4 c =
-    let second = c .before .before in
+    let second = c .before .before .before in
     let first = second .before .before .before in
     passes refl (eq-eqb _ _ (first .before .before .before .if1 .left))
-    (passes refl (eq-eqb _ _ (first .if2 .left)) (passes refl (eq-eqb _ _ (second .if3 .left)) refl))
+    (passes refl (eq-eqb _ _ (first .if2 .left))
+    (passes refl (eq-eqb _ _ (second .if3 .left)) (fails refl (ne-eqb _ _ (c .if4 .taken)) _)))
+
+returns-5 : tie.Need-returns-5
+unfolding sameIdentity
+returns-5 c =
+    let third = c .before .before in
+    let second = third .before .before .before in
+    let first = second .before .before .before in
+    passes refl (eq-eqb _ _ (first .before .before .before .if1 .left))
+    (passes refl (eq-eqb _ _ (first .if2 .left))
+    (passes refl (eq-eqb _ _ (second .if3 .left)) (passes refl (eq-eqb _ _ (third .if4 .left)) refl)))
 
 pub same-spec : {M : Type 1} → statement M
-same-spec = tie.close (tie.spec returns returns-2 returns-3 returns-4)
+same-spec = tie.close (tie.spec returns returns-2 returns-3 returns-4 returns-5)
