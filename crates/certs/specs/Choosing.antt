@@ -1,4 +1,4 @@
--- docs/RULES.md, Choosing certificates: kind, maker and serial all count, and one before or after the run's day.
+-- docs/RULES.md, Choosing certificates: kind, maker, serial and letter all count, and one before or after the run's day.
 use Prim.Native.Nat.{ℕ, zero, suc, _≤_, _<_}
 use mathlib.Core.Path.{_≡_}
 use mathlib.Core.Bool.{Bool, true, false, cond, not, _&&_, _||_}
@@ -22,7 +22,7 @@ abbrev pub nearer : Bool → ℕ → ℕ → Bool
 nearer false first second = ltb first second
 nearer true first second = ltb second first
 
--- a certificate of that kind, maker and serial, so dated
+-- a certificate of that kind, maker, serial and letter, so dated
 unfoldable pub eligible : Bool → ℕ → Identity → ℕ → Certificate → Bool
 eligible after kind identity day c =
     eqb (c .kind) kind && (sameIdentity (c .identity) identity && soDated after day (c .day))
@@ -66,12 +66,12 @@ abbrev pub NoNearer : Bool → ℕ → ℕ → Type 0
 NoNearer false chosen other = other ≤ chosen
 NoNearer true chosen other = chosen ≤ other
 
--- of that kind, maker and serial
+-- of that kind, maker, serial and letter
 pub record Of (k : ℕ) (id : Identity) (c : Certificate) : Type 0 where
   pub kind : c .kind ≡ k
   pub identity : c .identity ≡ id
 
--- of that kind, maker and serial, and so dated
+-- of that kind, maker, serial and letter, and so dated
 pub record Eligible (after : Bool) (kind : ℕ) (identity : Identity) (day : ℕ) (c : Certificate) : Type 0 where
   pub is : Of kind identity c
   pub dated : Dated after day (c .day)
@@ -88,15 +88,15 @@ pub record Nearest (after : Bool) (kind : ℕ) (identity : Identity) (day : ℕ)
   pub eligible : Eligible after kind identity day c
   pub nearest : (i : ℕ) → i < n → Eligible after kind identity day (f i) → NoNearer after (c .day) (f i .day)
 
--- no two of the first n agree in kind, maker, serial and day
+-- no two of the first n agree in kind, maker, serial, letter and day
 pub record Unique (f : ℕ → Certificate) (n : ℕ) : Type 0 where
   pub once : (i j : ℕ) → i < n → j < n → Of (f j .kind) (f j .identity) (f i) → f i .day ≡ f j .day → i ≡ j
 
--- every certificate of that kind, maker and serial among the first n is one of the first m of g
+-- every certificate of that kind, maker, serial and letter among the first n is one of the first m of g
 pub record Included (kind : ℕ) (identity : Identity) (f : ℕ → Certificate) (n : ℕ) (g : ℕ → Certificate) (m : ℕ) : Type 0 where
   pub held : (i : ℕ) → i < n → Of kind identity (f i) → (j : ℕ) × ((j < m) × (g j ≡ f i))
 
--- two jobs hold the same certificates of that kind, maker and serial, in whatever order and among whatever others
+-- two jobs hold the same certificates of that kind, maker, serial and letter, in whatever order and among whatever others
 pub record SameMembers (kind : ℕ) (identity : Identity) (f : ℕ → Certificate) (n : ℕ) (g : ℕ → Certificate) (m : ℕ) : Type 0 where
   pub into : Included kind identity f n g m
   pub back : Included kind identity g m f n

@@ -1,16 +1,18 @@
-// Choosing certificates: by kind, maker and serial, the latest dated on or before the run's day, or the earliest dated later.
+// Choosing certificates: by kind, maker, serial and letter, the latest dated on or before the run's day, or the earliest dated later.
 // Everything above reaches a job's certificates only through `chosen`. Relies on the records, their comparison and their place in the file.
 
 pub mod factor;
 
 use heads::certificate;
 use readings::certificates::CertificateKind;
+use readings::headers::Version;
 use records::Certificate;
 use records::Identity;
 use records::RunHeader;
 ghost use mathlib.Core.Path.{_≡_};
 ghost use Prim.Native.Nat.{_≤_};
 ghost use lib.ListN.{length};
+ghost use Rattle.opening.specs.Opening.{versionOf};
 ghost use Rattle.heads.specs.Values.{certificatePlace, certificateOf};
 ghost use Rattle.certs.specs.Choosing.{soDated, nearer, eligible, replaces, chosen, chosenFor};
 
@@ -48,7 +50,7 @@ fn nearer_day(first: u16, second: u16, after: bool) -> bool
     first < second
 }
 
-// Whether a certificate is of the asked kind, maker and serial, and so dated.
+// Whether a certificate is of the asked kind, maker, serial and letter, and so dated.
 fn is_eligible(c: Certificate, kind: u8, identity: Identity, day: u16, after: bool) -> bool
     ensures { λ r. ⌜ r ≡ eligible after kind identity day c ⌝ }
 {
@@ -84,15 +86,23 @@ fn replaces(
 
 // Of the first `count` certificates of a file, the one of that kind and identity that is dated nearest the day, on the asked side of it.
 // The best so far is kept as how many certificates there are up to it, 0 for none, and its day.
-pub fn choose(s: &[u8], count: usize, kind: u8, identity: Identity, day: u16, after: bool) -> Lookup
-    requires { ⌜ certificatePlace count ≤ length (now s) ⌝ }
+pub fn choose(
+    s: &[u8],
+    v: Version,
+    count: usize,
+    kind: u8,
+    identity: Identity,
+    day: u16,
+    after: bool,
+) -> Lookup
+    requires { ⌜ (v ≡ versionOf (now s)) × (certificatePlace v count ≤ length (now s)) ⌝ }
     ensures { λ r. ⌜ r ≡ chosen after kind identity day (certificateOf (now (s .entry))) count ⌝ }
 {
     let mut best: usize = 0;
     let mut nearest: u16 = 0;
     let mut i: usize = 0;
     while i < count {
-        let c = certificate::nth(s, i);
+        let c = certificate::nth(s, v, i);
         i += 1;
         if replaces(c, kind, identity, day, after, 0 < best, nearest) {
             best = i;
@@ -102,17 +112,18 @@ pub fn choose(s: &[u8], count: usize, kind: u8, identity: Identity, day: u16, af
     if best == 0 {
         return Lookup::Nothing;
     }
-    Lookup::Found(certificate::nth(s, best - 1))
+    Lookup::Found(certificate::nth(s, v, best - 1))
 }
 
 // The certificates of a run among the first `count` of a file, each found through `choose`.
-pub fn choose_all(s: &[u8], count: usize, header: RunHeader) -> Chosen
-    requires { ⌜ certificatePlace count ≤ length (now s) ⌝ }
+pub fn choose_all(s: &[u8], v: Version, count: usize, header: RunHeader) -> Chosen
+    requires { ⌜ (v ≡ versionOf (now s)) × (certificatePlace v count ≤ length (now s)) ⌝ }
     ensures { λ r. ⌜ r ≡ chosenFor (certificateOf (now (s .entry))) count header ⌝ }
 {
     Chosen {
         before: choose(
             s,
+            v,
             count,
             CertificateKind::METER,
             header.meter,
@@ -121,6 +132,7 @@ pub fn choose_all(s: &[u8], count: usize, header: RunHeader) -> Chosen
         ),
         after: choose(
             s,
+            v,
             count,
             CertificateKind::METER,
             header.meter,
@@ -129,6 +141,7 @@ pub fn choose_all(s: &[u8], count: usize, header: RunHeader) -> Chosen
         ),
         pitot: choose(
             s,
+            v,
             count,
             CertificateKind::PITOT,
             header.pitot,
@@ -137,6 +150,7 @@ pub fn choose_all(s: &[u8], count: usize, header: RunHeader) -> Chosen
         ),
         nozzle: choose(
             s,
+            v,
             count,
             CertificateKind::NOZZLE,
             header.nozzle,

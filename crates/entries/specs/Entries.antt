@@ -7,10 +7,11 @@ use Rattle.fields.specs.declared.trouble.Trouble.{Trouble}
 use Rattle.fields.specs.Trouble.{first, troubleUnless, repeated}
 use Rattle.records.specs.declared.Certificate.{Certificate}
 use Rattle.records.specs.Records.{sameIdentity}
+use Rattle.opening.specs.Opening.{versionOf}
 use Rattle.heads.specs.Values.{certificatePlace, certificateOf}
 use Rattle.heads.specs.Rows.{certificateTrouble}
 
--- the same kind, maker, serial and day
+-- the same kind, maker, serial, letter and day
 abbrev pub sameCertificate : Certificate → Certificate → Bool
 sameCertificate a b = eqb (a .kind) (b .kind) && (sameIdentity (a .identity) (b .identity) && eqb (a .day) (b .day))
 
@@ -25,4 +26,6 @@ repeats s k = anyTo (λ j. sameCertificate (certificateOf s j) (certificateOf s 
 
 -- a certificate's fields, and then that it does not repeat an earlier one
 abbrev pub entryTrouble : List ℕ → ℕ → Trouble
-entryTrouble s k = first (certificateTrouble s (certificatePlace k)) (troubleUnless (not (repeats s k)) repeated (certificatePlace k))
+entryTrouble s k =
+    let at : ℕ = certificatePlace (versionOf s) k in
+    first (certificateTrouble s at) (troubleUnless (not (repeats s k)) repeated at)

@@ -1,9 +1,10 @@
 -- `choose` is `chosen`. The invariant: the best so far is the choice among the certificates passed.
-use Prim.Native.Nat.{_≤_, _-_, suc}
+use Prim.Native.Nat.{_≤_, _<_, _-_, suc}
 use mathlib.Core.Path.{_≡_, sym, _∙_, ap}
 use native.Mathlib.Omega.{arith}
 use borrow.Author.Needs.{needs}
 use Rattle.heads.specs.Values.{certificateOf}
+use Rattle.heads.proofs.Places.{ends-before}
 use Rattle.certs.specs.declared.Lookup.the-variants.{Found}
 use Rattle.certs.specs.Choosing.{chosen}
 use Rattle.certs.proofs.Choosing.{lookupAt, Best, best-none, best-replaced, best-kept}
@@ -11,17 +12,19 @@ use Rattle.certs.proofs.choose.Statement.{statement}
 use Rattle.certs.proofs.choose.Tie as tie
 
 abbrev Inv-loop : tie.InvT-loop
-Inv-loop s count kind identity day after best₀ nearest₀ i₀ best nearest i =
+Inv-loop s v count kind identity day after best₀ nearest₀ i₀ best nearest i =
     (i ≤ count) × Best after kind identity day (certificateOf s) i best nearest
 
 abbrev μ-loop : tie.MeasureT-loop
-μ-loop s count kind identity day after best₀ nearest₀ i₀ best nearest i = count - i
+μ-loop s v count kind identity day after best₀ nearest₀ i₀ best nearest i = count - i
 
 loop-holds : tie.Need-loop-holds Inv-loop μ-loop
 loop-holds c = (omega arith, best-none _ _ _ _ _ 0)
 
 nth-requires : tie.Need-nth-requires Inv-loop μ-loop
-nth-requires c κs = search needs
+nth-requires c κs =
+    let start = c .before .before .before in
+    (start .pre .0, omega (arith, ends-before (start .args .v) _ _ (c .loop-test .taken), start .pre .1))
 
 add-i : tie.Need-add-i Inv-loop μ-loop
 add-i c = omega arith
@@ -59,7 +62,9 @@ sub-nth c = search needs
 nth-requires-2 : tie.Need-nth-requires-2 Inv-loop μ-loop
 nth-requires-2 c κs =
     let turn = c .before .before .loop in
-    omega (arith, sub-nth c, turn .inv .0, turn .inv .1 .within, c .before .before .before .before .pre)
+    let start = c .before .before .before .before in
+    let inside : turn .best - 1 < start .args .count = omega (arith, sub-nth c, turn .inv .0, turn .inv .1 .within) in
+    (start .pre .0, omega (arith, ends-before (start .args .v) _ _ inside, start .pre .1))
 
 returns-2 : tie.Need-returns-2 Inv-loop μ-loop
 returns-2 c =

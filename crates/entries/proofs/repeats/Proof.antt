@@ -2,25 +2,29 @@
 use Prim.Native.Nat.{_-_, _≤_}
 use mathlib.Core.Path.{_≡_, _∙_, ap}
 use mathlib.Core.Bool.{false}
+use native.Mathlib.Omega.{arith}
 use borrow.Author.Needs.{needs}
 use Rattle.entries.specs.Entries.{sameCertificate, anyTo}
 use Rattle.records.specs.declared.Certificate.{Certificate}
 use Rattle.heads.specs.Values.{certificateOf}
+use Rattle.heads.proofs.Places.{ends-before}
 use Rattle.entries.proofs.LookBack.{any-none, any-goes-on, any-stops, any-ends}
 use Rattle.entries.proofs.repeats.Statement.{statement}
 use Rattle.entries.proofs.repeats.Tie as tie
 
 abbrev Inv-loop : tie.InvT-loop
-Inv-loop s n c j₀ j = (j ≤ n) × (anyTo (λ i. sameCertificate (certificateOf s i) c) j ≡ false)
+Inv-loop s v n c j₀ j = (j ≤ n) × (anyTo (λ i. sameCertificate (certificateOf s i) c) j ≡ false)
 
 abbrev μ-loop : tie.MeasureT-loop
-μ-loop s n c j₀ j = n - j
+μ-loop s v n c j₀ j = n - j
 
 loop-holds : tie.Need-loop-holds Inv-loop μ-loop
 loop-holds c = (search needs, any-none _)
 
 nth-requires : tie.Need-nth-requires Inv-loop μ-loop
-nth-requires c κs = search needs
+nth-requires c κs =
+    let start = c .before .before .before in
+    (start .pre .0, omega (arith, ends-before (start .args .v) _ _ (c .loop-test .taken), start .pre .1))
 
 same-requires : tie.Need-same-requires Inv-loop μ-loop
 same-requires c κs = search needs

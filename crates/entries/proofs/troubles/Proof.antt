@@ -10,10 +10,10 @@ use Rattle.entries.proofs.troubles.Statement.{statement}
 use Rattle.entries.proofs.troubles.Tie as tie
 
 abbrev Inv-loop : tie.InvT-loop
-Inv-loop s n k₀ k = (k ≤ n) × (upTo (entryTrouble s) k ≡ Clear)
+Inv-loop s v n k₀ k = (k ≤ n) × (upTo (entryTrouble s) k ≡ Clear)
 
 abbrev μ-loop : tie.MeasureT-loop
-μ-loop s n k₀ k = n - k
+μ-loop s v n k₀ k = n - k
 
 loop-holds : tie.Need-loop-holds Inv-loop μ-loop
 loop-holds c = (search needs, none-clear _)

@@ -12,7 +12,7 @@ use Rattle.fields.proofs.RecordTrouble.{short-at, whole-at, reach-at}
 use Rattle.readings.specs.declared.headers.Version.{Version}
 use Rattle.heads.specs.Values.{certificateSize, certificate}
 use Rattle.heads.specs.Rows.{certificateRows}
-use Rattle.heads.proofs.Within.{certificate-within}
+use Rattle.heads.proofs.Places.{certificate-within}
 use Rattle.heads.proofs.certificate.trouble.Statement.{statement}
 use Rattle.heads.proofs.certificate.trouble.Tie as tie
 

@@ -16,7 +16,7 @@ use Rattle.readings.specs.declared.headers.Version.the-variants.{One}
 use Rattle.opening.specs.Opening.{letters}
 use Rattle.heads.specs.Values.{runHeaderSize, behind, header, spareByte}
 use Rattle.heads.specs.Rows.{headerRows}
-use Rattle.heads.proofs.Within.{header-within}
+use Rattle.heads.proofs.Places.{header-within}
 use Rattle.heads.proofs.header.trouble.Statement.{statement}
 use Rattle.heads.proofs.header.trouble.Tie as tie
 

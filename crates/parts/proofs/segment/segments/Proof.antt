@@ -9,7 +9,7 @@ use Rattle.records.specs.Records.{noSegment}
 use Rattle.arrays.specs.Arrays.{padded}
 use Rattle.parts.specs.Values.{segmentSize, segment, segmentAt}
 use Rattle.arrays.proofs.Arrays.{pad-none, pad-more}
-use Rattle.parts.proofs.Places.{enough}
+use Rattle.fields.proofs.Tails.{enough}
 use Rattle.parts.proofs.segment.segments.Statement.{statement}
 use Rattle.parts.proofs.segment.segments.Tie as tie
 

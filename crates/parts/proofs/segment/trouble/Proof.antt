@@ -31,7 +31,7 @@ from-requires c κs =
     let rest = whole .before .tail .ensures in
     let start = whole .before .before .before in
     let long : length (start .args .s .now) < 2 ^ 63 = omega (arith, start .good .0 .1) in
-    reach-at _ _ segmentSize _ rest (whole .if1 .left) long (lit≤ tt) (lit≤ tt) refl
+    reach-at _ _ segmentSize _ rest (whole .if1 .left) long (lit≤ tt) refl
     (c .rows .ensures ∙ ap (λ r. checks Clear (segmentRows r)) (c .before .segment .ensures ∙ ap segment rest))
 
 returns-2 : tie.Need-returns-2

@@ -36,7 +36,7 @@ from-requires c κs =
     let rest = whole .before .tail .ensures in
     let start = whole .before .before .before in
     let long : length (start .args .s .now) < 2 ^ 63 = omega (arith, start .good .0 .1) in
-    reach-at _ _ weighingSize _ rest (whole .if1 .left) long (lit≤ tt) (lit≤ tt) refl
+    reach-at _ _ weighingSize _ rest (whole .if1 .left) long (lit≤ tt) refl
     (c .rows .ensures ∙ (ap₂ (λ w b. checks Clear (weighingRows w b)) (c .before .before .weighing .ensures ∙ ap weighing rest) (c .before .byte .ensures ∙ ap (λ (t : List ℕ). byteAt t 1) rest)))
 
 returns-2 : tie.Need-returns-2

@@ -9,7 +9,7 @@ use Rattle.records.specs.Records.{noWeighing}
 use Rattle.arrays.specs.Arrays.{padded}
 use Rattle.parts.specs.Values.{weighingSize, weighing, weighingAt}
 use Rattle.arrays.proofs.Arrays.{pad-none, pad-more}
-use Rattle.parts.proofs.Places.{enough}
+use Rattle.fields.proofs.Tails.{enough}
 use Rattle.parts.proofs.weighing.weighings.Statement.{statement}
 use Rattle.parts.proofs.weighing.weighings.Tie as tie
 
