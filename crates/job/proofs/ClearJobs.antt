@@ -20,7 +20,7 @@ use Rattle.heads.specs.Values.{headerAt, certificatePlace, certificateOf}
 use Rattle.parts.specs.Values.{runAt, RunWithin}
 use Rattle.heads.proofs.InRange.{certificate-ok}
 use Rattle.parts.proofs.InRange.{run-ok}
-use Rattle.opening.specs.Opening.{certificateCountOf, runCountOf, fileTrouble}
+use Rattle.opening.specs.Opening.{versionOf, certificateCountOf, runCountOf, fileTrouble}
 use Rattle.job.specs.Places.{runStart, runOf}
 use Rattle.entries.specs.Entries.{sameCertificate, repeats, entryTrouble}
 use Rattle.job.specs.Troubles.{certificatesTrouble, numberBefore, runsTrouble, jobTrouble}
@@ -103,7 +103,7 @@ job-end s e =
 -- Certificates
 
 -- they lie within the file
-pub certificates-within : (s : List ℕ) → jobTrouble s ≡ Clear → certificatePlace (certificateCountOf s) ≤ length s
+pub certificates-within : (s : List ℕ) → jobTrouble s ≡ Clear → certificatePlace (versionOf s) (certificateCountOf s) ≤ length s
 certificates-within s e = let j = job-clear s e in certificates-fit s _ (j .file) (j .certificates)
 
 each-entry : (s : List ℕ) → jobTrouble s ≡ Clear → (k : ℕ) → k < certificateCountOf s → entryTrouble s k ≡ Clear
@@ -111,7 +111,7 @@ each-entry s e k h = each-clear (entryTrouble s) _ (job-clear s e .certificates)
 
 -- every certificate is in range
 pub clear-certificate : (s : List ℕ) → jobTrouble s ≡ Clear → (k : ℕ) → k < certificateCountOf s → CertificateOk (certificateOf s k)
-clear-certificate s e k h = certificate-ok s (certificatePlace k) (clear-left _ _ (each-entry s e k h))
+clear-certificate s e k h = certificate-ok s (certificatePlace (versionOf s) k) (clear-left _ _ (each-entry s e k h))
 
 -- no two certificates are the same ..
 pub none-same : (s : List ℕ) → jobTrouble s ≡ Clear → (i j : ℕ) → i < j → j < certificateCountOf s → sameCertificate (certificateOf s i) (certificateOf s j) ≡ false

@@ -4,6 +4,7 @@ use mathlib.Core.Path.{_≡_, refl}
 use mathlib.Core.Bool.{true}
 use mathlib.Core.List.{List}
 use native.Mathlib.Numerals.{add-one}
+use native.Mathlib.Omega.{arith}
 use borrow.Author.Tests.{ltb-true, eqb-true}
 use lib.Dec.{lit≤}
 use lib.ListN.{length}
@@ -11,6 +12,7 @@ use Rattle.fields.specs.declared.trouble.Trouble.the-variants.{Clear}
 use Rattle.fields.proofs.FirstTrouble.{clear-left, clear-right, unless-clear}
 use Rattle.readings.specs.Ranges.{totalSeconds}
 use Rattle.readings.proofs.Ranges.{both-left, both-right}
+use Rattle.opening.specs.Opening.{versionOf}
 use Rattle.heads.specs.Values.{headerAt, runHeaderSize}
 use Rattle.parts.specs.Values.{pointPlace, segmentPlace, pointTotal, segmentTotal, pointSize, segmentSize, weighingSize}
 use Rattle.heads.specs.Rows.{headerTrouble}
@@ -22,9 +24,9 @@ use Rattle.job.specs.Troubles.{partsTrouble, runTrouble, numberBefore}
 pub record RunClear (s : List ℕ) (start lower : ℕ) : Type 0 where
   pub header : headerTrouble s start ≡ Clear
   pub above : lower < headerAt s start .number
-  pub points : pointsTrouble s (start + runHeaderSize) (headerAt s start .counts .points) ≡ Clear
-  pub segments : segmentsTrouble s (pointPlace start (headerAt s start .counts .points)) (headerAt s start .counts .segments) ≡ Clear
-  pub weighings : weighingsTrouble s (segmentPlace start (headerAt s start .counts) (headerAt s start .counts .segments)) (headerAt s start .counts .weighings) ≡ Clear
+  pub points : pointsTrouble s (start + runHeaderSize (versionOf s)) (headerAt s start .counts .points) ≡ Clear
+  pub segments : segmentsTrouble s (pointPlace (versionOf s) start (headerAt s start .counts .points)) (headerAt s start .counts .segments) ≡ Clear
+  pub weighings : weighingsTrouble s (segmentPlace (versionOf s) start (headerAt s start .counts) (headerAt s start .counts .segments)) (headerAt s start .counts .weighings) ≡ Clear
   pub total : totalSeconds (pointTotal s start (headerAt s start .counts)) ≡ true
   pub balanced : segmentTotal s start (headerAt s start .counts) ≡ pointTotal s start (headerAt s start .counts)
 
@@ -47,8 +49,8 @@ run-clear s start lower e =
     }
 
 -- its header lies within the file, and so does all of it
-pub header-fits : (s : List ℕ) (start lower : ℕ) → runTrouble s start lower ≡ Clear → start + runHeaderSize ≤ length s
-header-fits s start lower e = complete-at s start runHeaderSize _ (lit≤ tt) (run-clear s start lower e .header)
+pub header-fits : (s : List ℕ) (start lower : ℕ) → runTrouble s start lower ≡ Clear → start + runHeaderSize (versionOf s) ≤ length s
+header-fits s start lower e = complete-at s start (runHeaderSize (versionOf s)) _ (omega arith) (run-clear s start lower e .header)
 
 pub run-fits : (s : List ℕ) (start lower : ℕ) → runTrouble s start lower ≡ Clear → nextStart s start ≤ length s
 run-fits s start lower e =

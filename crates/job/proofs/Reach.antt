@@ -17,8 +17,11 @@ use Rattle.fields.proofs.FirstTrouble.{each, clear-left, each-clear, checks-rea
 use Rattle.readings.proofs.Ranges.{within-greatest}
 use Rattle.records.specs.declared.Counts.{Counts}
 use Rattle.heads.proofs.InRange.{header-ok}
-use Rattle.opening.specs.Opening.{fileHeaderSize, runCountOf, fileTrouble}
-use Rattle.heads.specs.Values.{headerAt, certificatePlace, certificateSize, runHeaderSize}
+use Rattle.readings.specs.declared.headers.Version.the-variants.{Two}
+use Rattle.opening.specs.Opening.{fileHeaderSize, versionOf, certificateCountOf, runCountOf, fileTrouble}
+use Rattle.opening.proofs.HowMany.{few}
+use Rattle.heads.specs.Values.{headerAt, spareByte, certificateOf, certificatePlace, certificateSize, runHeaderSize}
+use Rattle.heads.proofs.Places.{certificate-within, header-within}
 use Rattle.heads.specs.Rows.{headerTrouble}
 use Rattle.job.specs.Places.{runStart, longestRun, longestJob}
 use Rattle.entries.specs.Entries.{repeats, entryTrouble}
@@ -92,10 +95,13 @@ few-parts s start e =
 run-reach : (s : List ℕ) (start lower : ℕ) {m : ℕ} → start + longestRun ≤ m → troublePlace (runTrouble s start lower) ≤ m
 unfolding runTrouble partsTrouble
 run-reach s start lower {m} room =
-    first-reach _ _ (record-reach s start runHeaderSize _ refl (omega arith))
+    let v = versionOf s in
+    let h = headerAt s start in
+    first-reach _ _ (record-reach s start (runHeaderSize v) _ (header-within v h (spareByte v (drop start s))) (omega (arith, few v 3)))
     (λ header.
-    let n = headerAt s start .counts in
-    let few = few-parts s start header in
+    let n = h .counts in
+    let parts = few-parts s start header in
+    let more = few v 3 in
     first-reach _ _ (unless-reach (ltb lower (headerAt s start .number)) repeated start (omega arith))
     (λ above.
     first-reach _ _ (row-reach s _ pointSize _ (n .points) (λ i. refl) (omega arith))
@@ -106,20 +112,21 @@ run-reach s start lower {m} room =
     (λ weighings. unless-reach (goodSeconds s start n) wrongSeconds start (omega arith))))))
 
 -- where a run starts if those before it are clear: after the header, at most 64 certificates and those runs
-pub start-reach : (s : List ℕ) → fileTrouble s ≡ Clear → (k : ℕ) → runsTrouble s k ≡ Clear → runStart s k ≤ certificatePlace greatestCertificateCount + longestRun * k
+pub start-reach : (s : List ℕ) → fileTrouble s ≡ Clear → (k : ℕ) → runsTrouble s k ≡ Clear → runStart s k ≤ certificatePlace Two greatestCertificateCount + longestRun * k
 unfolding runStart upTo
-start-reach s e zero clear = omega (arith, certificate-count s e)
+start-reach s e zero clear = omega (arith, certificate-count s e, few (versionOf s) (certificateCountOf s))
 start-reach s e (suc k) clear =
     let before = start-reach s e k (clear-left _ _ clear) in
-    let few = few-parts s (runStart s k) (run-clear s (runStart s k) (numberBefore s k) (each-clear _ (suc k) clear k (lt-suc-self k)) .header) in
-    omega (arith, mul-suc longestRun k)
+    let parts = few-parts s (runStart s k) (run-clear s (runStart s k) (numberBefore s k) (each-clear _ (suc k) clear k (lt-suc-self k)) .header) in
+    omega (arith, mul-suc longestRun k, few (versionOf s) 3)
 
 -- The whole file
 
-entry-reach : (s : List ℕ) (k : ℕ) {m : ℕ} → certificatePlace k + certificateSize ≤ m → troublePlace (entryTrouble s k) ≤ m
+entry-reach : (s : List ℕ) (k : ℕ) {m : ℕ} → certificatePlace (versionOf s) k + certificateSize (versionOf s) ≤ m → troublePlace (entryTrouble s k) ≤ m
 entry-reach s k room =
-    first-reach _ _ (record-reach s (certificatePlace k) certificateSize _ refl room)
-    (λ own. unless-reach (not (repeats s k)) repeated (certificatePlace k) (omega arith))
+    let v = versionOf s in
+    first-reach _ _ (record-reach s (certificatePlace v k) (certificateSize v) _ (certificate-within v (certificateOf s k)) room)
+    (λ own. unless-reach (not (repeats s k)) repeated (certificatePlace v k) (omega arith))
 
 job-reach : (s : List ℕ) → troublePlace (jobTrouble s) ≤ longestJob
 unfolding jobTrouble
@@ -128,7 +135,7 @@ job-reach s =
     (λ file.
     let certificates = certificate-count s file in
     let runs = run-count s file in
-    first-reach _ _ (up-reach (entryTrouble s) _ (λ k h clear. entry-reach s k (omega arith)))
+    first-reach _ _ (up-reach (entryTrouble s) _ (λ k h clear. entry-reach s k (omega (arith, few (versionOf s) k, few (versionOf s) 1))))
     (λ held.
     first-reach _ _ (up-reach _ _ (λ k h clear. run-reach s (runStart s k) (numberBefore s k) (omega (arith, start-reach s file k clear))))
     (λ walked. unless-reach (leb (length s) (runStart s (runCountOf s))) leftOver _ (omega (arith, start-reach s file _ walked)))))

@@ -2,7 +2,7 @@
 use Prim.Native.Nat.{ℕ, zero, suc, _≤_}
 use mathlib.Core.Path.{_≡_, refl, sym, _∙_, ap}
 use mathlib.Core.List.{List}
-use native.Mathlib.Nat.{lt-suc-self, mul-suc}
+use native.Mathlib.Nat.{lt-suc-self}
 use native.Mathlib.Omega.{arith}
 use lib.Dec.{lit≤}
 use lib.ListN.{length}
@@ -14,8 +14,10 @@ use Rattle.fields.proofs.FirstTrouble.{clear-left, each-clear, first-met}
 use Rattle.readings.proofs.Ranges.{within-greatest}
 use Rattle.arrays.specs.Arrays.{padded}
 use Rattle.fields.proofs.RecordTrouble.{complete-at, good-at}
-use Rattle.opening.specs.Opening.{fileHeaderSize, certificateCountOf, runCountOf, fileRows, fileTrouble}
+use Rattle.opening.specs.Opening.{fileHeaderSize, versionOf, certificateCountOf, runCountOf, fileRows, fileTrouble}
+use Rattle.opening.proofs.HowMany.{few}
 use Rattle.heads.specs.Values.{certificatePlace, certificateSize}
+use Rattle.heads.proofs.Places.{next-place}
 use Rattle.job.specs.declared.Job.{Job}
 use Rattle.job.specs.declared.runs.Walk.{Walk}
 use Rattle.job.specs.Places.{runStart}
@@ -32,11 +34,12 @@ pub run-count : (s : List ℕ) → fileTrouble s ≡ Clear → runCountOf s ≤ 
 run-count s e = within-greatest leastRunCount greatestRunCount _ (good-at s 0 fileHeaderSize (fileRows s) e .1 .1 .1 .0)
 
 -- certificates without trouble end within the file
-pub certificates-fit : (s : List ℕ) (n : ℕ) → fileTrouble s ≡ Clear → upTo (entryTrouble s) n ≡ Clear → certificatePlace n ≤ length s
-certificates-fit s zero e f = complete-at s 0 fileHeaderSize (fileRows s) (lit≤ tt) e
+pub certificates-fit : (s : List ℕ) (n : ℕ) → fileTrouble s ≡ Clear → upTo (entryTrouble s) n ≡ Clear → certificatePlace (versionOf s) n ≤ length s
+certificates-fit s zero e f = omega (arith, complete-at s 0 fileHeaderSize (fileRows s) (lit≤ tt) e, few (versionOf s) 0)
 certificates-fit s (suc n) e f =
-    let last = complete-at s (certificatePlace n) certificateSize _ (lit≤ tt) (clear-left _ _ (each-clear (entryTrouble s) (suc n) f n (lt-suc-self n))) in
-    omega (arith, last, mul-suc certificateSize n)
+    let v = versionOf s in
+    let last = complete-at s (certificatePlace v n) (certificateSize v) _ (omega arith) (clear-left _ _ (each-clear (entryTrouble s) (suc n) f n (lt-suc-self n))) in
+    rw (next-place v n) last
 
 -- A refusal is the job in that trouble ..
 pub refuses : (s : List ℕ) {r : Job} {t : Trouble} {n p : ℕ} → r ≡ refusedJob t → t ≡ At n p → t ≡ jobTrouble s → r ≡ readJob s

@@ -7,8 +7,9 @@ use lib.ListN.{length}
 use Rattle.fields.specs.declared.trouble.Trouble.{Trouble}
 use Rattle.fields.specs.Trouble.{first, troubleUnless, repeated, wrongSeconds, leftOver, upTo}
 use Rattle.readings.specs.Ranges.{totalSeconds}
+use Rattle.readings.specs.declared.headers.Version.{Version}
 use Rattle.records.specs.declared.Counts.{Counts}
-use Rattle.opening.specs.Opening.{certificateCountOf, runCountOf, fileTrouble}
+use Rattle.opening.specs.Opening.{versionOf, certificateCountOf, runCountOf, fileTrouble}
 use Rattle.heads.specs.Values.{headerAt, runHeaderSize}
 use Rattle.entries.specs.Entries.{entryTrouble}
 use Rattle.parts.specs.Values.{pointPlace, segmentPlace, pointTotal, segmentTotal}
@@ -30,9 +31,10 @@ goodSeconds s start n = totalSeconds (pointTotal s start n) && eqb (segmentTotal
 -- what follows a run's header: points, segments, weighings, and then the seconds
 unfoldable pub partsTrouble : List ℕ → ℕ → Counts → Trouble
 partsTrouble s start n =
-    first (pointsTrouble s (start + runHeaderSize) (n .points))
-    (first (segmentsTrouble s (pointPlace start (n .points)) (n .segments))
-    (first (weighingsTrouble s (segmentPlace start n (n .segments)) (n .weighings))
+    let v : Version = versionOf s in
+    first (pointsTrouble s (start + runHeaderSize v) (n .points))
+    (first (segmentsTrouble s (pointPlace v start (n .points)) (n .segments))
+    (first (weighingsTrouble s (segmentPlace v start n (n .segments)) (n .weighings))
     (troubleUnless (goodSeconds s start n) wrongSeconds start)))
 
 -- a run whose number has to be above `lower`

@@ -49,12 +49,12 @@ pub fn read_records(s: &[u8]) -> Job
 {
     let certificates = numbers::u16_at(s, opening::CERTIFICATES_AT) as usize;
     let runs = numbers::u16_at(s, opening::RUNS_AT) as usize;
-    let t = entries::troubles(s, certificates);
+    let v = opening::version(s);
+    let t = entries::troubles(s, v, certificates);
     let Trouble::Clear = t else {
         return refused_job(t);
     };
-    let first = opening::SIZE + certificate::SIZE * certificates;
-    let w = runs::read(s, first, runs);
+    let w = runs::read(s, v, certificate::place(v, certificates), runs);
     let t = w.trouble;
     let Trouble::Clear = t else {
         return refused_job(t);

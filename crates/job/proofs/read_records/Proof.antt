@@ -11,7 +11,9 @@ use Rattle.fields.specs.Trouble.{first, upTo}
 use Rattle.fields.proofs.FirstTrouble.{first-met, first-passed}
 use Rattle.arrays.specs.Arrays.{padded}
 use Rattle.fields.proofs.RecordTrouble.{complete-at}
-use Rattle.opening.specs.Opening.{fileHeaderSize}
+use Rattle.readings.specs.declared.headers.Version.{Version}
+use Rattle.opening.specs.Opening.{fileHeaderSize, versionOf}
+use Rattle.opening.proofs.HowMany.{few}
 use Rattle.heads.specs.Values.{certificatePlace}
 use Rattle.job.specs.declared.runs.Walk.{Walk}
 use Rattle.job.specs.Places.{runStart}
@@ -37,9 +39,12 @@ u16-at-requires-2 c κs = complete (c .before .before)
 cast-runs : tie.Need-cast-runs
 cast-runs c = search needs
 
+version-requires : tie.Need-version-requires
+version-requires c κs = complete (c .before .before .before)
+
 troubles-requires : tie.Need-troubles-requires
 troubles-requires c κs =
-    subst (λ (n : ℕ). n ≤ greatestCertificateCount) (sym (c .before .u16-at .ensures)) (certificate-count _ (c .before .before .before .pre))
+    (c .version .ensures, subst (λ (n : ℕ). n ≤ greatestCertificateCount) (sym (c .before .before .u16-at .ensures)) (certificate-count _ (c .before .before .before .before .pre)))
 
 enum-told : tie.Need-enum-told
 enum-told c = search needs
@@ -55,29 +60,35 @@ unfolding jobTrouble
 returns c =
     let told = c .before .enum-told2 .given .1 in
     let certificates = c .before .before .before in
-    let count = certificates .before .before in
+    let count = certificates .before .before .before in
     let start = count .before .before in
     let s = start .args .s .now in
     let entries = certificates .troubles .ensures ∙ ap (upTo (entryTrouble s)) (count .u16-at .ensures) in
     refuses s (c .refused-job .ensures) told (first-passed refl (start .pre) (first-met _ entries told))
 
-mul-first : tie.Need-mul-first
-mul-first c = search needs
-
-add-first : tie.Need-add-first
-add-first c = search needs
+place-requires : tie.Need-place-requires
+place-requires c κs =
+    let certificates = c .before .before in
+    let count = certificates .before .before .before in
+    let start = count .before .before in
+    omega (arith, count .u16-at .ensures, certificate-count _ (start .pre), few (certificates .before .version .result) (count .u16-at .result))
 
 read-requires : tie.Need-read-requires
 unfolding runStart
 read-requires c κs =
-    let certificates = c .before .before in
-    let runs = certificates .before in
+    let held = c .before in
+    let certificates = held .before .before in
+    let version = certificates .before in
+    let runs = version .before in
     let count = runs .before in
     let start = count .before .before in
-    let entries = sym (certificates .troubles .ensures) ∙ c .enum-told .given .1 in (
+    let s = start .args .s .now in
+    let entries = sym (certificates .troubles .ensures) ∙ held .enum-told .given .1 in
+    let first = c .place .ensures ∙ ap (λ (v : Version). certificatePlace v (count .u16-at .result)) (version .version .ensures) in (
+      version .version .ensures,
       subst (λ (n : ℕ). n ≤ greatestRunCount) (sym (runs .u16-at2 .ensures)) (run-count _ (start .pre)),
-      ap certificatePlace (count .u16-at .ensures),
-      certificates-fit (start .args .s .now) _ (start .pre) entries,
+      first ∙ ap (certificatePlace (versionOf s)) (count .u16-at .ensures),
+      subst (λ (n : ℕ). n ≤ length s) (sym first) (certificates-fit s _ (start .pre) entries),
     )
 
 enum-told-3 : tie.Need-enum-told-3
@@ -94,9 +105,9 @@ unfolding jobTrouble
 returns-2 c =
     let told = c .before .enum-told4 .given .1 in
     let walk = c .before .before .before in
-    let held = walk .before in
+    let held = walk .before .before in
     let certificates = held .before .before in
-    let runs = certificates .before in
+    let runs = certificates .before .before in
     let count = runs .before in
     let start = count .before .before in
     let s = start .args .s .now in
@@ -110,9 +121,9 @@ unfolding jobTrouble
 returns-3 c =
     let done = c .before in
     let walk = done .before .before in
-    let held = walk .before in
+    let held = walk .before .before in
     let certificates = held .before .before in
-    let runs = certificates .before in
+    let runs = certificates .before .before in
     let count = runs .before in
     let start = count .before .before in
     let s = start .args .s .now in
@@ -132,13 +143,13 @@ read-records-spec =
     cast-certificates
     u16-at-requires-2
     cast-runs
+    version-requires
     troubles-requires
     enum-told
     enum-told-2
     refused-job-requires
     returns
-    mul-first
-    add-first
+    place-requires
     read-requires
     enum-told-3
     enum-told-4

@@ -1,19 +1,34 @@
 -- The counts are those of the header.
-use mathlib.Core.Path.{_∙_, ap}
+use Prim.Native.Nat.{ℕ, _+_, _*_}
+use mathlib.Core.Path.{_∙_, ap, ap₂}
+use mathlib.Core.List.{List}
+use native.Mathlib.Omega.{arith}
 use borrow.Author.Needs.{needs}
-use Rattle.heads.specs.Values.{counts, runHeaderSize}
-use Rattle.parts.specs.Values.{runEnd}
-use Rattle.parts.proofs.Places.{enough}
+use Rattle.readings.specs.declared.headers.Version.{Version}
+use Rattle.readings.specs.declared.headers.Version.the-variants.{One}
+use Rattle.records.specs.declared.Counts.{Counts}
+use Rattle.opening.specs.Opening.{letters}
+use Rattle.heads.specs.Values.{behind, counts, runHeaderSize}
+use Rattle.parts.specs.Values.{pointSize, segmentSize, weighingSize}
+use Rattle.fields.proofs.Tails.{enough}
 use Rattle.job.proofs.runs.next_start.Statement.{statement}
 use Rattle.job.proofs.runs.next_start.Tie as tie
 
 tail-requires : tie.Need-tail-requires
 tail-requires c κs = search needs
 
+behind-requires : tie.Need-behind-requires
+behind-requires c κs = search needs
+
 counts-requires : tie.Need-counts-requires
 counts-requires c κs =
-    let start = c .before .before in
-    enough (start .args .s .now) (start .args .start) runHeaderSize (c .tail .ensures) (start .pre)
+    let start = c .before .before .before in
+    let v = start .args .v in
+    let whole = enough (start .args .s .now) (start .args .start) (runHeaderSize v) (c .before .tail .ensures) (start .pre .1) in
+    enough _ (letters v 3) (runHeaderSize One) (c .behind .ensures) (omega (arith, whole))
+
+size-requires : tie.Need-size-requires
+size-requires c κs = search needs
 
 add-at-segments : tie.Need-add-at-segments
 add-at-segments c = search needs
@@ -47,15 +62,22 @@ add-result c = search needs
 
 returns : tie.Need-returns
 returns c =
-    let read = c .before .before .before in
-    ap (runEnd (read .before .before .before .args .start)) (read .counts .ensures ∙ ap counts (read .before .tail .ensures))
+    let size = c .before .before .before in
+    let read = size .before in
+    let start = read .before .before .before .before in
+    let v = start .pre .0 in
+    ap₂ (λ (k : ℕ) (n : Counts). start .args .start + k + pointSize * n .points + segmentSize * n .segments + weighingSize * n .weighings)
+    (size .size .ensures ∙ ap runHeaderSize v)
+    (read .counts .ensures ∙ ap counts (read .before .behind .ensures ∙ ap₂ (λ (v : Version) (t : List ℕ). behind v 3 t) v (read .before .before .tail .ensures)))
 
 pub next-start-spec : {M : Type 1} → statement M
 next-start-spec =
     tie.close
     (tie.spec
     tail-requires
+    behind-requires
     counts-requires
+    size-requires
     add-at-segments
     cast-at-segments
     mul-at-segments

@@ -15,7 +15,7 @@ use Rattle.fields.specs.Trouble.{leftOver}
 use Rattle.fields.proofs.FirstTrouble.{first-met, first-passed, none-clear, goes-on, stops, ends}
 use Rattle.arrays.specs.Arrays.{padded}
 use Rattle.arrays.proofs.Arrays.{pad-none, pad-more}
-use Rattle.parts.proofs.Places.{enough}
+use Rattle.fields.proofs.Tails.{enough}
 use Rattle.job.specs.Places.{nextStart, runStart}
 use Rattle.job.specs.Troubles.{runTrouble, numberBefore, runsTrouble, endTrouble}
 use Rattle.job.proofs.WholeFile.{walk-stops, walk-ends}
@@ -24,18 +24,18 @@ use Rattle.job.proofs.runs.read.Statement.{statement}
 use Rattle.job.proofs.runs.read.Tie as tie
 
 abbrev Inv-loop : tie.InvT-loop
-Inv-loop s first n starts₀ at₀ lower₀ k₀ starts at lower k = (k ≤ n) × (at ≤ length s) × (at ≡ runStart s k) × (lower ≡ numberBefore s k) × (runsTrouble s k ≡ Clear) × (starts ≡ padded greatestRunCount 0 (runStart s) k)
+Inv-loop s v first n starts₀ at₀ lower₀ k₀ starts at lower k = (k ≤ n) × (at ≤ length s) × (at ≡ runStart s k) × (lower ≡ numberBefore s k) × (runsTrouble s k ≡ Clear) × (starts ≡ padded greatestRunCount 0 (runStart s) k)
 
 abbrev μ-loop : tie.MeasureT-loop
-μ-loop s first n starts₀ at₀ lower₀ k₀ starts at lower k = n - k
+μ-loop s v first n starts₀ at₀ lower₀ k₀ starts at lower k = n - k
 
 loop-holds : tie.Need-loop-holds Inv-loop μ-loop
 loop-holds c =
     let first = c .before .pre in
-    (search needs, first .2, first .1, number-none _, none-clear _, pad-none greatestRunCount 0 _)
+    (search needs, first .3, first .2, number-none _, none-clear _, pad-none greatestRunCount 0 _)
 
 run-trouble-requires : tie.Need-run-trouble-requires Inv-loop μ-loop
-run-trouble-requires c κs = search needs
+run-trouble-requires c κs = (c .before .before .before .pre .0, c .before .loop .inv .1)
 
 enum-told : tie.Need-enum-told Inv-loop μ-loop
 enum-told c = search needs
@@ -58,8 +58,8 @@ returns c =
 -- the header of a clear run is complete
 complete :
     (c : tie.After-enum-told Inv-loop μ-loop)
-    → c .before .before .before .before .loop .at + runHeaderSize ≤ length (c .before .before .before .before .before .before .args .s .now)
-complete c = header-fits _ _ _ (sym (c .before .before .run-trouble .ensures) ∙ c .enum-told .given .1)
+    → c .before .before .before .before .loop .at + runHeaderSize (c .before .before .before .before .before .before .args .v) ≤ length (c .before .before .before .before .before .before .args .s .now)
+complete c = rw (c .before .before .before .before .before .before .pre .0) (header-fits _ _ _ (sym (c .before .before .run-trouble .ensures) ∙ c .enum-told .given .1))
 
 mul-starts : tie.Need-mul-starts Inv-loop μ-loop
 mul-starts c = search needs
@@ -76,7 +76,7 @@ u16-at-requires c κs =
     enough (turn .before .before .args .s .now) (turn .loop .at) 2 (c .tail .ensures) (omega (arith, complete (c .before)))
 
 next-start-requires : tie.Need-next-start-requires Inv-loop μ-loop
-next-start-requires c κs = complete (c .before .before)
+next-start-requires c κs = (c .before .before .before .before .before .before .before .before .pre .0, complete (c .before .before))
 
 add-k : tie.Need-add-k Inv-loop μ-loop
 add-k c = search needs
