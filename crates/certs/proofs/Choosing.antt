@@ -1,4 +1,4 @@
--- The laws of the choice: what it answers, when it answers nothing, and that only the certificates of its kind, maker and serial count.
+-- The laws of the choice: what it answers, when it answers nothing, and that only the certificates of its kind, maker, serial and letter count.
 use Prim.Native.Nat.{ℕ, zero, suc, _+_, _≤_, _<_}
 use mathlib.Core.Path.{_≡_, refl, sym, _∙_, ap}
 use mathlib.Core.Bool.{Bool, true, false, true≢false, false≢true, cond, not, _&&_, _||_}
@@ -223,7 +223,7 @@ module _ (after : Bool) (kind : ℕ) (identity : Identity) (day : ℕ) (f : ℕ 
       step true e a = kept n (eligible-true _ _ _ _ _ e) a
       step false e a = passed n e a
 
-  -- A certificate is missing exactly if none of the first n is of that kind, maker and serial and so dated
+  -- A certificate is missing exactly if none of the first n is of that kind, maker, serial and letter and so dated
   pub chosen-nothing : (n : ℕ) → (chosen after kind identity day f n ≡ Nothing) ↔ NoneSoDated after kind identity day f n
   chosen-nothing n = (none (answer n), missing (answer n))
     where
@@ -236,7 +236,7 @@ module _ (after : Bool) (kind : ℕ) (identity : Identity) (day : ℕ) (f : ℕ 
       missing (inr (c, (is, best))) none =
           absurd (none (best .index) (best .inside) (rw (best .there) (best .eligible)))
 
-  -- What is found is one of the first n, of that kind, maker and serial, so dated, and no other so dated is nearer
+  -- What is found is one of the first n, of that kind, maker, serial and letter, so dated, and no other so dated is nearer
   pub chosen-found : (n : ℕ) (c : Certificate) → chosen after kind identity day f n ≡ Found c → Nearest after kind identity day f n c
   chosen-found n c e = is-nearest (answer n)
     where
@@ -263,7 +263,7 @@ module _ (after : Bool) (kind : ℕ) (identity : Identity) (day : ℕ) (f : ℕ 
       let (j, (inside, same)) = within .held i l (h .is) in
       chosen-nothing after kind identity day g m .0 e j inside (rw same h))
 
--- Only the certificates of that kind, maker and serial count, in whatever order and among whatever others
+-- Only the certificates of that kind, maker, serial and letter count, in whatever order and among whatever others
 module _ (after : Bool) (kind : ℕ) (identity : Identity) (day : ℕ) (f : ℕ → Certificate) (n : ℕ) (g : ℕ → Certificate) (m : ℕ) where
   -- two that are found in both are dated alike, and so are one
   one-found : Unique f n → SameMembers kind identity f n g m → (c d : Certificate) → Nearest after kind identity day f n c → Nearest after kind identity day g m d → c ≡ d

@@ -19,16 +19,18 @@ use Rattle.records.specs.declared.Point.{Point}
 use Rattle.records.specs.declared.Segment.{Segment}
 use Rattle.records.proofs.Sums.{sum-ext}
 use Rattle.records.specs.declared.RunHeader.{RunHeader}
-use Rattle.heads.specs.Values.{headerAt, certificatePlace, certificateOf, runHeaderSize}
-use Rattle.parts.specs.Values.{pointPlace, segmentPlace, pointTotal, segmentTotal, runEnd}
-use Rattle.heads.specs.Rows.{certificateRows}
-use Rattle.parts.specs.Rows.{pointRows, segmentRows}
+use Rattle.readings.specs.declared.headers.Version.{Version}
+use Rattle.heads.specs.Values.{certificate, header, spareByte, headerAt, certificatePlace, certificateOf, certificateSize, runHeaderSize}
+use Rattle.parts.specs.Values.{pointAt, segmentAt, pointPlace, segmentPlace, pointTotal, segmentTotal, runEnd}
+use Rattle.heads.specs.Rows.{certificateRows, headerRows}
+use Rattle.parts.specs.Rows.{pointRows, segmentRows, pointsTrouble, segmentsTrouble, weighingsTrouble}
 use Rattle.fields.proofs.RecordTrouble.{whole-at}
-use Rattle.opening.specs.Opening.{certificateCountOf, runCountOf, fileTrouble}
+use Rattle.opening.specs.Opening.{versionOf, certificateCountOf, runCountOf, fileTrouble}
+use Rattle.opening.proofs.HowMany.{few}
 use Rattle.job.specs.Places.{nextStart, runStart, longestRun, longestJob}
 use Rattle.entries.specs.Entries.{sameCertificate, entryTrouble}
 use Rattle.job.specs.Troubles.{certificatesTrouble, goodSeconds, partsTrouble, numberBefore, runTrouble, runsTrouble, endTrouble, jobTrouble}
-use Rattle.demands.proofs.Fronts.{Front, front-of, front-same, certificate-count-front, run-count-front, file-rows-front, certificate-front, header-front, header-rows-front, point-front, segment-front, weighing-rows-front}
+use Rattle.demands.proofs.Fronts.{Front, front-of, front-same, version-front, certificate-count-front, run-count-front, file-rows-front, certificate-front, header-front, header-rows-front, point-front, segment-front, weighing-rows-front}
 use Rattle.entries.proofs.LookBack.{any-ext}
 use Rattle.job.proofs.Reach.{Few, few-parts, start-reach}
 use Rattle.job.proofs.WholeFile.{certificate-count, run-count}
@@ -91,6 +93,13 @@ module _ (p a b : List ℕ) (whole : length p ≡ longestJob) (more : 1 ≤ leng
   file-same : fileTrouble (p ++ a) ≡ fileTrouble (p ++ b)
   file-same = record-same file-rows-front 0 (lit≤ tt)
 
+  version-same : versionOf (p ++ a) ≡ versionOf (p ++ b)
+  version-same = same-at version-front 0 (lit≤ tt)
+
+  -- the version that both say
+  abbrev v : Version
+  v = versionOf (p ++ a)
+
   certificate-count-same : certificateCountOf (p ++ a) ≡ certificateCountOf (p ++ b)
   certificate-count-same = same-at certificate-count-front 0 (lit≤ tt)
 
@@ -99,49 +108,72 @@ module _ (p a b : List ℕ) (whole : length p ≡ longestJob) (more : 1 ≤ leng
 
   -- Certificates
 
+  certificate-room : (k : ℕ) → k < greatestCertificateCount → certificatePlace v k + certificateSize v ≤ longestJob
+  certificate-room k h = omega (arith, few v k, few v 1)
+
   certificate-same : (k : ℕ) → k < greatestCertificateCount → certificateOf (p ++ a) k ≡ certificateOf (p ++ b) k
-  certificate-same k h = same-at certificate-front (certificatePlace k) (omega arith)
+  certificate-same k h =
+      same-at (certificate-front v) (certificatePlace v k) (certificate-room k h)
+      ∙ ap (λ (v : Version). certificate v (drop (certificatePlace v k) (p ++ b))) version-same
 
   entry-same : (k : ℕ) → k < greatestCertificateCount → entryTrouble (p ++ a) k ≡ entryTrouble (p ++ b) k
   entry-same k h =
-      first-same _ _ _ (record-same (front-of certificateRows certificate-front) (certificatePlace k) (omega arith))
+      let own-same = record-same (front-of (certificateRows v) (certificate-front v)) (certificatePlace v k) (certificate-room k h) in
+      first-same _ _ _
+      (own-same ∙ ap (λ (v : Version). recordTrouble (p ++ b) (certificatePlace v k) (certificateSize v) (certificateRows v (certificate v (drop (certificatePlace v k) (p ++ b))))) version-same)
       (λ own.
       let earlier = any-ext _ _ k (λ j l. ap₂ sameCertificate (certificate-same j (lt-trans l h)) (certificate-same k h)) in
-      ap (λ (stood : Bool). troubleUnless (not stood) repeated (certificatePlace k)) earlier)
+      ap₂ (λ (stood : Bool) (v : Version). troubleUnless (not stood) repeated (certificatePlace v k)) earlier version-same)
 
   certificates-same : fileTrouble (p ++ a) ≡ Clear → certificatesTrouble (p ++ a) ≡ certificatesTrouble (p ++ b)
   certificates-same file =
-      let few = certificate-count (p ++ a) file in
+      let held = certificate-count (p ++ a) file in
       up-same _ _ _ (λ k h clear. entry-same k (omega arith)) ∙ ap (upTo (entryTrouble (p ++ b))) certificate-count-same
 
   -- Runs
 
   header-same : (start : ℕ) → start + longestRun ≤ longestJob → headerAt (p ++ a) start ≡ headerAt (p ++ b) start
-  header-same start h = same-at header-front start (omega arith)
+  header-same start h =
+      same-at (header-front v) start (omega (arith, few v 3))
+      ∙ ap (λ (v : Version). header v (drop start (p ++ b))) version-same
 
   point-total-same : (start : ℕ) (n : Counts) → start + longestRun ≤ longestJob → Few n → pointTotal (p ++ a) start n ≡ pointTotal (p ++ b) start n
-  point-total-same start n h few = sum-ext _ _ (n .points) (λ i l. same-at (front-of (λ (x : Point). x .seconds) point-front) (pointPlace start i) (omega arith))
+  point-total-same start n h parts =
+      sum-ext _ _ (n .points)
+      (λ i l.
+      same-at (front-of (λ (x : Point). x .seconds) point-front) (pointPlace v start i) (omega (arith, few v 3, parts .points))
+      ∙ ap (λ (v : Version). pointAt (p ++ b) (pointPlace v start i) .seconds) version-same)
 
   segment-total-same : (start : ℕ) (n : Counts) → start + longestRun ≤ longestJob → Few n → segmentTotal (p ++ a) start n ≡ segmentTotal (p ++ b) start n
-  segment-total-same start n h few = sum-ext _ _ (n .segments) (λ i l. same-at (front-of (λ (x : Segment). x .seconds) segment-front) (segmentPlace start n i) (omega arith))
+  segment-total-same start n h parts =
+      sum-ext _ _ (n .segments)
+      (λ i l.
+      same-at (front-of (λ (x : Segment). x .seconds) segment-front) (segmentPlace v start n i) (omega (arith, few v 3, parts .points, parts .segments))
+      ∙ ap (λ (v : Version). segmentAt (p ++ b) (segmentPlace v start n i) .seconds) version-same)
 
   seconds-same : (start : ℕ) (n : Counts) → start + longestRun ≤ longestJob → Few n → goodSeconds (p ++ a) start n ≡ goodSeconds (p ++ b) start n
-  seconds-same start n h few = rw (point-total-same start n h few, segment-total-same start n h few)
+  seconds-same start n h parts = rw (point-total-same start n h parts, segment-total-same start n h parts)
 
   parts-same : (start : ℕ) (n : Counts) → start + longestRun ≤ longestJob → Few n → partsTrouble (p ++ a) start n ≡ partsTrouble (p ++ b) start n
   unfolding partsTrouble
-  parts-same start n h few =
-      first-same _ _ _ (row-same (front-of pointRows point-front) (start + runHeaderSize) (n .points) (omega arith))
+  parts-same start n h parts =
+      let letters = few v 3 in
+      let points = row-same (front-of pointRows point-front) (start + runHeaderSize v) (n .points) (omega (arith, parts .points)) in
+      let segments = row-same (front-of segmentRows segment-front) (pointPlace v start (n .points)) (n .segments) (omega (arith, parts .points, parts .segments)) in
+      let weighings = row-same weighing-rows-front (segmentPlace v start n (n .segments)) (n .weighings) (omega (arith, parts .points, parts .segments, parts .weighings)) in
+      first-same _ _ _ (points ∙ ap (λ (v : Version). pointsTrouble (p ++ b) (start + runHeaderSize v) (n .points)) version-same)
       (λ clear.
-      first-same _ _ _ (row-same (front-of segmentRows segment-front) (pointPlace start (n .points)) (n .segments) (omega arith))
+      first-same _ _ _ (segments ∙ ap (λ (v : Version). segmentsTrouble (p ++ b) (pointPlace v start (n .points)) (n .segments)) version-same)
       (λ clear.
-      first-same _ _ _ (row-same weighing-rows-front (segmentPlace start n (n .segments)) (n .weighings) (omega arith))
-      (λ clear. ap (λ (ok : Bool). troubleUnless ok wrongSeconds start) (seconds-same start n h few))))
+      first-same _ _ _ (weighings ∙ ap (λ (v : Version). weighingsTrouble (p ++ b) (segmentPlace v start n (n .segments)) (n .weighings)) version-same)
+      (λ clear. ap (λ (ok : Bool). troubleUnless ok wrongSeconds start) (seconds-same start n h parts))))
 
   run-same : (start lower : ℕ) → start + longestRun ≤ longestJob → runTrouble (p ++ a) start lower ≡ runTrouble (p ++ b) start lower
   unfolding runTrouble
   run-same start lower h =
-      first-same _ _ _ (record-same header-rows-front start (omega arith))
+      let own-same = record-same (header-rows-front v) start (omega (arith, few v 3)) in
+      first-same _ _ _
+      (own-same ∙ ap (λ (v : Version). recordTrouble (p ++ b) start (runHeaderSize v) (headerRows v (header v (drop start (p ++ b))) (spareByte v (drop start (p ++ b))))) version-same)
       (λ own.
       ap (first _) (parts-same start (headerAt (p ++ a) start .counts) h (few-parts (p ++ a) start own))
       ∙ ap (λ (x : RunHeader). first (troubleUnless (ltb lower (x .number)) repeated start) (partsTrouble (p ++ b) start (x .counts))) (header-same start h))
@@ -153,10 +185,10 @@ module _ (p a b : List ℕ) (whole : length p ≡ longestJob) (more : 1 ≤ leng
 
     start-same : (k : ℕ) → k ≤ greatestRunCount → runsTrouble (p ++ a) k ≡ Clear → runStart (p ++ a) k ≡ runStart (p ++ b) k
     unfolding runStart upTo
-    start-same zero h clear = ap certificatePlace certificate-count-same
+    start-same zero h clear = ap₂ certificatePlace version-same certificate-count-same
     start-same (suc k) h clear =
         let earlier = clear-left _ _ clear in
-        ap (λ (x : RunHeader). runEnd (runStart (p ++ a) k) (x .counts)) (header-same (runStart (p ++ a) k) (start-room k h earlier))
+        ap₂ (λ (v : Version) (x : RunHeader). runEnd v (runStart (p ++ a) k) (x .counts)) version-same (header-same (runStart (p ++ a) k) (start-room k h earlier))
         ∙ ap (nextStart (p ++ b)) (start-same k (omega arith) earlier)
 
     number-same : (k : ℕ) → k ≤ greatestRunCount → runsTrouble (p ++ a) k ≡ Clear → numberBefore (p ++ a) k ≡ numberBefore (p ++ b) k
@@ -169,7 +201,7 @@ module _ (p a b : List ℕ) (whole : length p ≡ longestJob) (more : 1 ≤ leng
 
     runs-same : runsTrouble (p ++ a) (runCountOf (p ++ a)) ≡ runsTrouble (p ++ b) (runCountOf (p ++ b))
     runs-same =
-        let few = run-count (p ++ a) file in
+        let many = run-count (p ++ a) file in
         up-same _ _ _
         (λ k h clear.
         let below : k < greatestRunCount = omega arith in
@@ -180,9 +212,9 @@ module _ (p a b : List ℕ) (whole : length p ≡ longestJob) (more : 1 ≤ leng
 
     end-same : runsTrouble (p ++ a) (runCountOf (p ++ a)) ≡ Clear → endTrouble (p ++ a) (runStart (p ++ a) (runCountOf (p ++ a))) ≡ endTrouble (p ++ b) (runStart (p ++ b) (runCountOf (p ++ b)))
     end-same clear =
-        let few = run-count (p ++ a) file in
+        let many = run-count (p ++ a) file in
         let low = start-reach (p ++ a) file (runCountOf (p ++ a)) clear in
-        let same = start-same (runCountOf (p ++ a)) few clear ∙ ap (runStart (p ++ b)) run-count-same in
+        let same = start-same (runCountOf (p ++ a)) many clear ∙ ap (runStart (p ++ b)) run-count-same in
         left-over (p ++ a) _ (omega (arith, length-append p a))
         ∙ ap (At leftOver) same
         ∙ sym (left-over (p ++ b) _ (omega (arith, length-append p b)))

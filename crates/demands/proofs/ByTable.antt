@@ -6,14 +6,17 @@ use mathlib.Core.List.{List}
 use mathlib.Core.Logic.{_⊎_, inl, inr, _↔_}
 use borrow.Author.Tests.{leb-false, le-leb, lt-leb, lt-ltb, le-ltb, ltb-true, ltb-false, ne-eqb, eqb-true, eqb-false, not-false}
 use borrow.Author.Needs.{zero≤}
-use lib.Dec.{leb, ltb, eqb}
+use native.Mathlib.Omega.{arith}
+use lib.Dec.{leb, ltb, eqb, lit≤}
 use lib.ListN.{length}
-use Rattle.readings.specs.Ranges.{within, greatestTotalSeconds, totalSeconds}
+use Rattle.readings.specs.Ranges.{within, leastVersion, greatestVersion, version, greatestTotalSeconds, totalSeconds}
+use Rattle.readings.proofs.Ranges.{within-least, within-greatest}
 use Rattle.fields.specs.declared.trouble.Trouble.{Trouble}
 use Rattle.fields.specs.declared.trouble.Trouble.the-variants.{Clear, At}
 use Rattle.fields.specs.Trouble.{first, troubleUnless, repeated, wrongSeconds, leftOver, Row}
 use Rattle.fields.proofs.FirstTrouble.{first-clear, first-at, unless-clear, told, each, checks-told, stops}
-use Rattle.opening.specs.Opening.{fileHeaderSize, certificateCountOf, runCountOf, fileRows, fileTrouble}
+use Rattle.fields.specs.Numbers.{u16At}
+use Rattle.opening.specs.Opening.{fileHeaderSize, versionOf, certificateCountOf, runCountOf, fileRows, fileTrouble}
 use Rattle.heads.specs.Values.{runHeaderSize, certificatePlace, certificateOf}
 use Rattle.parts.specs.Values.{pointPlace, segmentPlace, runAt}
 use Rattle.parts.specs.Rows.{pointsTrouble, segmentsTrouble, weighingsTrouble}
@@ -92,18 +95,31 @@ seconds-wrong s k e = go (leb (totalOfPoints s k) greatestTotalSeconds) refl
     go false f = inl (leb-false _ _ f)
     go true f = inr (eqb-false _ _ (rw (le-leb 0 (totalOfPoints s k) zero≤, f) at e))
 
+-- the version is judged wrong where it is neither 1 nor 2 ..
+neither : (n : ℕ) → (n ≡ 1 → ⊥) → (n ≡ 2 → ⊥) → version n ≡ false
+neither n not-one not-two = go (version n) refl
+  where
+    go : (t : Bool) → version n ≡ t → version n ≡ false
+    go false e = e
+    go true e = absurd (omega (arith, within-least leastVersion greatestVersion n e, within-greatest leastVersion greatestVersion n e, not-one, not-two))
+
+-- .. and where it is judged wrong, it is no version in range
+other-version : (v : ℕ) → leastVersion ≤ v → v ≤ greatestVersion → {n : ℕ} → version n ≡ false → n ≡ v → ⊥
+unfolding within
+other-version v low high {n} e same = true≢false (sym (rw (same, le-leb leastVersion v low, le-leb v greatestVersion high)) ∙ e)
+
 pub row-told : (s : List ℕ) {n p : ℕ} → FileRefused s n p → jobTrouble s ≡ At n p
 unfolding jobTrouble runTrouble partsTrouble runAt
-row-told s (row1 r reached less) = at-fixed s r reached (record-short s (startOf s r) (sizeOf r) (rowsOf s r) (size-some r) less)
+row-told s (row1 r reached less) = at-fixed s r reached (record-short s (startOf s r) (sizeOf s r) (rowsOf s r) (size-some s r) less)
 row-told s (row2 complete not-marked) = at-fixed s fileHeader tt (record-bad s 0 fileHeaderSize (fileRows s) complete (here not-marked refl refl))
-row-told s (row3 complete is-marked other) =
-    at-fixed s fileHeader tt (record-bad s 0 fileHeaderSize (fileRows s) complete (later is-marked (here (ne-eqb _ _ other) refl refl)))
-row-told s (row4 r reached complete b) = at-fixed s r reached (record-bad s (startOf s r) (sizeOf r) (rowsOf s r) complete b)
-row-told s (row5 r reached complete b) = at-fixed s r reached (record-bad s (startOf s r) (sizeOf r) (rowsOf s r) complete b)
+row-told s (row3 complete is-marked not-one not-two) =
+    at-fixed s fileHeader tt (record-bad s 0 fileHeaderSize (fileRows s) complete (later is-marked (here (neither (u16At s 3) not-one not-two) refl refl)))
+row-told s (row4 r reached complete b) = at-fixed s r reached (record-bad s (startOf s r) (sizeOf s r) (rowsOf s r) complete b)
+row-told s (row5 r reached complete b) = at-fixed s r reached (record-bad s (startOf s r) (sizeOf s r) (rowsOf s r) complete b)
 row-told s (row6 (certificateAgain j k reached good inside same)) =
     at-certificate s k reached
     (first-clear _ (good-clear s (oneCertificate k) good)
-    ∙ unless-bad repeated (certificatePlace k) (ap not (sym (any-stops (λ i. sameCertificate (certificateOf s i) (certificateOf s k)) j k refl (repeats-same same) inside))))
+    ∙ unless-bad repeated (certificatePlace (versionOf s) k) (ap not (sym (any-stops (λ i. sameCertificate (certificateOf s i) (certificateOf s k)) j k refl (repeats-same same) inside))))
 row-told s (row6 (numberNotAbove k reached good low)) =
     at-run s (suc k) reached
     (first-clear _ (good-clear s (runHeader (suc k)) good)
@@ -153,19 +169,19 @@ module _ (s : List ℕ) {n p : ℕ} where
 
   -- a fixed part that is reached, behind the file's header
   of-fixed : (r : Fixed) → Reached s r → each (λ n p. ofField n) (rowsOf s r) ≡ true → fixedTrouble s r ≡ At n p → FileRefused s n p
-  of-fixed r reached fields told = go (record-met s (startOf s r) (sizeOf r) (rowsOf s r) (size-some r) told)
+  of-fixed r reached fields told = go (record-met s (startOf s r) (sizeOf s r) (rowsOf s r) (size-some s r) told)
     where
-      go : RecordMet s (startOf s r) (sizeOf r) (rowsOf s r) n p → FileRefused s n p
+      go : RecordMet s (startOf s r) (sizeOf s r) (rowsOf s r) n p → FileRefused s n p
       go (short less number place) = same-row number place (row1 r reached less)
       go (bad complete b there) = row-of-field r reached complete (field-number (rowsOf s r) fields b) b there
 
   of-header : fixedTrouble s fileHeader ≡ At n p → FileRefused s n p
-  of-header told = go (record-met s 0 fileHeaderSize (fileRows s) (size-some fileHeader) told)
+  of-header told = go (record-met s 0 fileHeaderSize (fileRows s) (size-some s fileHeader) told)
     where
       go : RecordMet s 0 fileHeaderSize (fileRows s) n p → FileRefused s n p
       go (short less number place) = same-row number place (row1 fileHeader tt less)
       go (bad complete (here not number there-in) there) = same-row number (cc) (row2 complete not)
-      go (bad complete (later ok (here not number there-in)) there) = same-row number (cc) (row3 complete ok (eqb-false _ _ not))
+      go (bad complete (later ok (here not number there-in)) there) = same-row number (cc) (row3 complete ok (other-version 1 (lit≤ tt) (lit≤ tt) not) (other-version 2 (lit≤ tt) (lit≤ tt) not))
       go (bad complete (later ok (later ok′ b)) there) = row-of-field fileHeader tt complete (field-number _ refl b) (later ok (later ok′ b)) there
 
   of-certificates : Good s fileHeader → MetIn (entryTrouble s) (certificateCountOf s) n p → FileRefused s n p
@@ -177,10 +193,10 @@ module _ (s : List ℕ) {n p : ℕ} where
       reached : ReachedCertificate s k
       reached = record { header = header; inside = m .inside; earlier = certificates-good s _ (m .clear) }
 
-      go : Met (certificateTrouble s (certificatePlace k)) (troubleUnless (not (repeats s k)) repeated (certificatePlace k)) n p → FileRefused s n p
+      go : Met (certificateTrouble s (certificatePlace (versionOf s) k)) (troubleUnless (not (repeats s k)) repeated (certificatePlace (versionOf s) k)) n p → FileRefused s n p
       go (early t) = of-fixed (oneCertificate k) reached refl t
       go (late c t) =
-          let f = failed (not (repeats s k)) repeated (certificatePlace k) t in
+          let f = failed (not (repeats s k)) repeated (certificatePlace (versionOf s) k) t in
           let one = one-found _ k (not-false (repeats s k) (f .not)) in
           same-row (f .number) (f .place) (row6 (certificateAgain (one .index) k reached (clear-good s (oneCertificate k) c) (one .inside) (same-repeats _ _ (one .is))))
 
@@ -199,13 +215,13 @@ module _ (s : List ℕ) {n p : ℕ} where
       seconds = troubleUnless (goodSeconds s start counts) wrongSeconds start
 
       weighings : Trouble
-      weighings = weighingsTrouble s (segmentPlace start counts (counts .segments)) (counts .weighings)
+      weighings = weighingsTrouble s (segmentPlace (versionOf s) start counts (counts .segments)) (counts .weighings)
 
       segments : Trouble
-      segments = segmentsTrouble s (pointPlace start (counts .points)) (counts .segments)
+      segments = segmentsTrouble s (pointPlace (versionOf s) start (counts .points)) (counts .segments)
 
       points : Trouble
-      points = pointsTrouble s (start + runHeaderSize) (counts .points)
+      points = pointsTrouble s (start + runHeaderSize (versionOf s)) (counts .points)
 
       at-seconds : points ≡ Clear → segments ≡ Clear → weighings ≡ Clear → seconds ≡ At n p → FileRefused s n p
       at-seconds c d f t =

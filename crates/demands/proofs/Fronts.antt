@@ -7,8 +7,10 @@ use native.Mathlib.Omega.{arith}
 use lib.ListN.{length, getD, drop, length-drop}
 use lib.Seq.{drop-append-le}
 use Rattle.fields.specs.Numbers.{byteAt, u16At, u32At, i16At}
-use Rattle.opening.specs.Opening.{fileHeaderSize, certificateCountOf, runCountOf, fileRows}
-use Rattle.heads.specs.Values.{certificate, header, certificateSize, runHeaderSize}
+use Rattle.readings.specs.declared.headers.Version.{Version}
+use Rattle.readings.specs.declared.headers.Version.the-variants.{One, Two}
+use Rattle.opening.specs.Opening.{fileHeaderSize, versionOf, certificateCountOf, runCountOf, fileRows}
+use Rattle.heads.specs.Values.{certificate, header, spareByte, certificateSize, runHeaderSize}
 use Rattle.parts.specs.Values.{point, segment, weighing, pointSize, segmentSize, weighingSize}
 use Rattle.heads.specs.Rows.{headerRows}
 use Rattle.parts.specs.Rows.{weighingRows}
@@ -42,6 +44,10 @@ front-same {n = n} {f = f} front p a b at h =
 
 -- The header
 
+pub version-front : Front fileHeaderSize versionOf
+unfolding u16At versionOf
+version-front = record { alone = λ c r t. refl }
+
 pub certificate-count-front : Front fileHeaderSize certificateCountOf
 unfolding u16At
 certificate-count-front = record { alone = λ c r t. refl }
@@ -56,18 +62,21 @@ file-rows-front = record { alone = λ c r t. refl }
 
 -- The records
 
-pub certificate-front : Front certificateSize certificate
+pub certificate-front : (v : Version) → Front (certificateSize v) (certificate v)
 unfolding u16At u32At
-certificate-front = record { alone = λ c r t. refl }
+certificate-front One = record { alone = λ c r t. refl }
+certificate-front Two = record { alone = λ c r t. refl }
 
-pub header-front : Front runHeaderSize header
+pub header-front : (v : Version) → Front (runHeaderSize v) (header v)
 unfolding u16At u32At i16At
-header-front = record { alone = λ c r t. refl }
+header-front One = record { alone = λ c r t. refl }
+header-front Two = record { alone = λ c r t. refl }
 
 -- with the byte that is not used
-pub header-rows-front : Front runHeaderSize (λ t. headerRows (header t) (byteAt t 63))
+pub header-rows-front : (v : Version) → Front (runHeaderSize v) (λ t. headerRows v (header v t) (spareByte v t))
 unfolding u16At u32At i16At
-header-rows-front = record { alone = λ c r t. refl }
+header-rows-front One = record { alone = λ c r t. refl }
+header-rows-front Two = record { alone = λ c r t. refl }
 
 pub point-front : Front pointSize point
 unfolding u16At i16At

@@ -21,7 +21,7 @@ use Rattle.records.proofs.Identities.{same-equal, same-refl}
 use Rattle.heads.specs.Values.{runHeaderSize, certificatePlace}
 use Rattle.parts.specs.Values.{pointPlace, segmentPlace, runAt}
 use Rattle.parts.specs.Rows.{pointsTrouble, segmentsTrouble, weighingsTrouble}
-use Rattle.opening.specs.Opening.{runCountOf}
+use Rattle.opening.specs.Opening.{versionOf, runCountOf}
 use Rattle.job.specs.Places.{runStart}
 use Rattle.entries.specs.Entries.{sameCertificate, anyTo, repeats, entryTrouble}
 use Rattle.job.specs.Troubles.{goodSeconds, partsTrouble, runTrouble, runsTrouble, numberBefore, jobTrouble}
@@ -33,21 +33,21 @@ use Rattle.demands.proofs.Troubles.{all-clear, unless-good, record-good
 
 -- the trouble met in a fixed part
 abbrev pub fixedTrouble : List ℕ → Fixed → Trouble
-fixedTrouble s r = recordTrouble s (startOf s r) (sizeOf r) (rowsOf s r)
+fixedTrouble s r = recordTrouble s (startOf s r) (sizeOf s r) (rowsOf s r)
 
-pub size-some : (r : Fixed) → 1 ≤ sizeOf r
-size-some fileHeader = lit≤ tt
-size-some (oneCertificate k) = lit≤ tt
-size-some (runHeader k) = lit≤ tt
-size-some (onePoint k i) = lit≤ tt
-size-some (oneSegment k i) = lit≤ tt
-size-some (oneWeighing k i) = lit≤ tt
+pub size-some : (s : List ℕ) (r : Fixed) → 1 ≤ sizeOf s r
+size-some s fileHeader = lit≤ tt
+size-some s (oneCertificate k) = omega arith
+size-some s (runHeader k) = omega arith
+size-some s (onePoint k i) = lit≤ tt
+size-some s (oneSegment k i) = lit≤ tt
+size-some s (oneWeighing k i) = lit≤ tt
 
 pub clear-good : (s : List ℕ) (r : Fixed) → fixedTrouble s r ≡ Clear → Good s r
-clear-good s r e = record { complete = complete-at s (startOf s r) (sizeOf r) (rowsOf s r) (size-some r) e; fields = good-at s (startOf s r) (sizeOf r) (rowsOf s r) e }
+clear-good s r e = record { complete = complete-at s (startOf s r) (sizeOf s r) (rowsOf s r) (size-some s r) e; fields = good-at s (startOf s r) (sizeOf s r) (rowsOf s r) e }
 
 pub good-clear : (s : List ℕ) (r : Fixed) → Good s r → fixedTrouble s r ≡ Clear
-good-clear s r g = record-good s (startOf s r) (sizeOf r) (rowsOf s r) (g .complete) (g .fields)
+good-clear s r g = record-good s (startOf s r) (sizeOf s r) (rowsOf s r) (g .complete) (g .fields)
 
 -- Certificates
 
@@ -90,7 +90,7 @@ clear-certificate s k e =
 
 pub good-certificate : (s : List ℕ) (k : ℕ) → GoodCertificate s k → entryTrouble s k ≡ Clear
 good-certificate s k g =
-    first-clear _ (good-clear s (oneCertificate k) (g .own)) ∙ unless-good repeated (certificatePlace k) (ap not (alone (repeats s k) refl))
+    first-clear _ (good-clear s (oneCertificate k) (g .own)) ∙ unless-good repeated (certificatePlace (versionOf s) k) (ap not (alone (repeats s k) refl))
   where
     alone : (b : Bool) → repeats s k ≡ b → repeats s k ≡ false
     alone true e = let one = one-found _ k e in absurd (g .new (one .index) (one .inside) (same-repeats _ _ (one .is)))
@@ -109,22 +109,22 @@ before-above s zero g h = within-least leastRunNumber greatestRunNumber _ (g .fi
 before-above s (suc k) g h = h
 
 -- the parts of a run: good exactly where they are clear
-pub points-clear : (s : List ℕ) (k n : ℕ) → GoodPoints s k n → pointsTrouble s (runStart s k + runHeaderSize) n ≡ Clear
+pub points-clear : (s : List ℕ) (k n : ℕ) → GoodPoints s k n → pointsTrouble s (runStart s k + runHeaderSize (versionOf s)) n ≡ Clear
 points-clear s k n g = all-clear _ n (λ i h. good-clear s (onePoint k i) (g i h))
 
-pub segments-clear : (s : List ℕ) (k n : ℕ) → GoodSegments s k n → segmentsTrouble s (pointPlace (runStart s k) (countsOf s k .points)) n ≡ Clear
+pub segments-clear : (s : List ℕ) (k n : ℕ) → GoodSegments s k n → segmentsTrouble s (pointPlace (versionOf s) (runStart s k) (countsOf s k .points)) n ≡ Clear
 segments-clear s k n g = all-clear _ n (λ i h. good-clear s (oneSegment k i) (g i h))
 
-pub weighings-clear : (s : List ℕ) (k n : ℕ) → GoodWeighings s k n → weighingsTrouble s (segmentPlace (runStart s k) (countsOf s k) (countsOf s k .segments)) n ≡ Clear
+pub weighings-clear : (s : List ℕ) (k n : ℕ) → GoodWeighings s k n → weighingsTrouble s (segmentPlace (versionOf s) (runStart s k) (countsOf s k) (countsOf s k .segments)) n ≡ Clear
 weighings-clear s k n g = all-clear _ n (λ i h. good-clear s (oneWeighing k i) (g i h))
 
-pub points-good : (s : List ℕ) (k n : ℕ) → pointsTrouble s (runStart s k + runHeaderSize) n ≡ Clear → GoodPoints s k n
+pub points-good : (s : List ℕ) (k n : ℕ) → pointsTrouble s (runStart s k + runHeaderSize (versionOf s)) n ≡ Clear → GoodPoints s k n
 points-good s k n clear i inside = clear-good s (onePoint k i) (each-clear _ n clear i inside)
 
-pub segments-good : (s : List ℕ) (k n : ℕ) → segmentsTrouble s (pointPlace (runStart s k) (countsOf s k .points)) n ≡ Clear → GoodSegments s k n
+pub segments-good : (s : List ℕ) (k n : ℕ) → segmentsTrouble s (pointPlace (versionOf s) (runStart s k) (countsOf s k .points)) n ≡ Clear → GoodSegments s k n
 segments-good s k n clear i inside = clear-good s (oneSegment k i) (each-clear _ n clear i inside)
 
-pub weighings-good : (s : List ℕ) (k n : ℕ) → weighingsTrouble s (segmentPlace (runStart s k) (countsOf s k) (countsOf s k .segments)) n ≡ Clear → GoodWeighings s k n
+pub weighings-good : (s : List ℕ) (k n : ℕ) → weighingsTrouble s (segmentPlace (versionOf s) (runStart s k) (countsOf s k) (countsOf s k .segments)) n ≡ Clear → GoodWeighings s k n
 weighings-good s k n clear i inside = clear-good s (oneWeighing k i) (each-clear _ n clear i inside)
 
 pub clear-run : (s : List ℕ) (k : ℕ) → runTrouble s (runStart s k) (numberBefore s k) ≡ Clear → GoodRun s k

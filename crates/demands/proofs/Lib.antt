@@ -20,5 +20,7 @@ pub mod Fronts
 pub mod Beyond
 pub mod Front
 pub mod Examples
+pub mod Versions
+pub mod OwnLetter
 pub mod Starred
 pub mod Printed

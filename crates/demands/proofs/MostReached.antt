@@ -2,7 +2,7 @@
 use mathlib.Core.Path.{_≡_, refl}
 use lib.IntN.{pos}
 use lib.ListN.{length, replicate, getD-replicate}
-use Rattle.readings.specs.Ranges.{within, signedWithin, leastRunNumber, leastBarometer, rectangularShape, leastSide, leastBlankVolume, leastAcetoneDensity, greatestPointCount, greatestSegmentCount, greatestWeighingCount, leastSeconds, filterKind}
+use Rattle.readings.specs.Ranges.{within, signedWithin, leastRunNumber, leastBarometer, rectangularShape, leastSide, leastBlankVolume, leastAcetoneDensity, greatestPointCount, greatestSegmentCount, greatestWeighingCount, leastSeconds, filterKind, noLetter}
 use Rattle.grids.specs.Grids.{nextOf, nextGrid}
 use Rattle.records.specs.declared.Identity.{Identity}
 use Rattle.records.specs.declared.Point.{Point}
@@ -38,7 +38,7 @@ filter : Weighing
 filter = record { kind = filterKind; tare = 7; first = 0; second = 6 }
 
 someone : Identity
-someone = record { maker = record { first = 65; second = 65; third = 65 }; serial = 1 }
+someone = record { maker = record { first = 65; second = 65; third = 65 }; serial = 1; letter = noLetter }
 
 -- a small rectangle close to two disturbances, no gas metered, as many points of a second each as a run can have
 fullRun : Run

@@ -12,7 +12,7 @@ use Rattle.fields.specs.declared.trouble.Trouble.the-variants.{At}
 use Rattle.fields.proofs.FirstTrouble.{told, first-told, unless-told, up-told}
 use Rattle.records.specs.declared.Counts.{Counts}
 use Rattle.readings.proofs.Ranges.{both-left, both-right}
-use Rattle.opening.specs.Opening.{fileHeaderSize, runCountOf}
+use Rattle.opening.specs.Opening.{fileHeaderSize, versionOf, runCountOf}
 use Rattle.heads.specs.Values.{headerAt, certificatePlace, certificateSize, runHeaderSize}
 use Rattle.fields.proofs.RecordTrouble.{told-at}
 use Rattle.job.specs.Places.{runStart}
@@ -27,7 +27,7 @@ abbrev Known : Trouble → Type 0
 Known t = told known t ≡ true
 
 entry-known : (s : List ℕ) (k : ℕ) → Known (entryTrouble s k)
-entry-known s k = first-told known _ _ (told-at (λ n. known n 0) s _ certificateSize _ refl refl) (unless-told known (not (repeats s k)) 6 (certificatePlace k) refl)
+entry-known s k = first-told known _ _ (told-at (λ n. known n 0) s _ (certificateSize (versionOf s)) _ refl refl) (unless-told known (not (repeats s k)) 6 (certificatePlace (versionOf s) k) refl)
 
 parts-known : (s : List ℕ) (start : ℕ) (n : Counts) → Known (partsTrouble s start n)
 unfolding partsTrouble
@@ -39,7 +39,7 @@ parts-known s start n =
 run-known : (s : List ℕ) (start lower : ℕ) → Known (runTrouble s start lower)
 unfolding runTrouble
 run-known s start lower =
-    first-told known _ _ (told-at (λ n. known n 0) s start runHeaderSize _ refl refl)
+    first-told known _ _ (told-at (λ n. known n 0) s start (runHeaderSize (versionOf s)) _ refl refl)
     (first-told known _ _ (unless-told known (ltb lower (headerAt s start .number)) 6 start refl) (parts-known s start _))
 
 job-known : (s : List ℕ) → Known (jobTrouble s)

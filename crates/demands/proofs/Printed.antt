@@ -20,6 +20,7 @@ use Rattle.site.specs.Site.{diameter, halfDiameter, undisturbed, minimumPoints,
 use Rattle.conditions.specs.Conditions.{missing, moved, uneven, short, leaking, lineAgainst, ratioAgainst, steadyLimit, unsteady}
 use Rattle.rules.specs.Rules.{table, groundOf, placesOf, placeAt, classOf}
 use Rattle.fields.specs.Numbers.{u16At, u32At, i16At}
+use Rattle.opening.specs.Opening.{versionOf}
 use Rattle.fields.specs.Trouble.{first, checks, recordTrouble, upTo}
 use Rattle.arrays.specs.Arrays.{padded, filledTo}
 use Rattle.parts.specs.Values.{runAt}
@@ -38,5 +39,5 @@ use Rattle.lines.specs.Starred.{workedLines}
 use Rattle.demands.specs.Starred.{PrintedJob}
 
 pub printed : PrintedJob
-unfolding grown floorRoot nearestRoot roundDiv division within signedWithin sameIdentity sumTo time meteredVolume allowance leakLoss leakLosses correctedVolume meanOrifice meterPressure meterTemperature dryVolume waterVapor moisture unlessZero addScaled nozzleArea drawnGas isokinetic deduction finalWeights tares catch concentration metering stack sampling lines sheet dryWeight wetWeight stackPressure stackTemperature pointRoot meanRoot densityRoot velocity eligible keep chosen chosenFor holds deciding apart factorMoved factor factorOf coefficientOf diametersOf broken brokenAt findingAt ruleFindings findingsTo findings accepted listed linesFor findingsFor missing moved uneven diameter halfDiameter undisturbed minimumPoints nextOf nextGrid nextAllowed short leaking lineAgainst ratioAgainst steadyLimit unsteady table groundOf partOf ofKind besideOf placesOf placeAt classOf u16At u32At i16At first checks upTo padded filledTo recordTrouble runAt runStart readJob anyTo partsTrouble runTrouble numberBefore jobTrouble worked reduction chosenIn reducedRun runNamed packed le spliced joined entryBytes sheetBytes findingBytes findingsBytes handed outcome success answerOf linesAfter findingsAfter countAnswer numberAnswer workedLines
+unfolding grown floorRoot nearestRoot roundDiv division within signedWithin sameIdentity sumTo time meteredVolume allowance leakLoss leakLosses correctedVolume meanOrifice meterPressure meterTemperature dryVolume waterVapor moisture unlessZero addScaled nozzleArea drawnGas isokinetic deduction finalWeights tares catch concentration metering stack sampling lines sheet dryWeight wetWeight stackPressure stackTemperature pointRoot meanRoot densityRoot velocity eligible keep chosen chosenFor holds deciding apart factorMoved factor factorOf coefficientOf diametersOf broken brokenAt findingAt ruleFindings findingsTo findings accepted listed linesFor findingsFor missing moved uneven diameter halfDiameter undisturbed minimumPoints nextOf nextGrid nextAllowed short leaking lineAgainst ratioAgainst steadyLimit unsteady table groundOf partOf ofKind besideOf placesOf placeAt classOf u16At u32At i16At versionOf first checks upTo padded filledTo recordTrouble runAt runStart readJob anyTo partsTrouble runTrouble numberBefore jobTrouble worked reduction chosenIn reducedRun runNamed packed le spliced joined entryBytes sheetBytes findingBytes findingsBytes handed outcome success answerOf linesAfter findingsAfter countAnswer numberAnswer workedLines
 printed = record { answer = refl; lines = refl; findings = refl }

@@ -6,4 +6,6 @@ pub mod Percent
 pub mod Weighings
 pub mod Demands
 pub mod Front
+pub mod Versions
+pub mod OwnLetter
 pub mod Starred

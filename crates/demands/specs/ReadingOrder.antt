@@ -3,14 +3,15 @@ use Prim.Native.Nat.{ℕ, zero, suc, _+_, _≤_, _<_}
 use mathlib.Core.Path.{_≡_}
 use mathlib.Core.List.{List}
 use lib.ListN.{length, drop}
+use Rattle.readings.specs.declared.headers.Version.{Version}
 use Rattle.readings.specs.Ranges.{greatestTotalSeconds}
 use Rattle.fields.specs.Numbers.{byteAt}
 use Rattle.fields.specs.Trouble.{Row, AllGood}
 use Rattle.records.specs.declared.Certificate.{Certificate}
 use Rattle.records.specs.declared.Counts.{Counts}
 use Rattle.certs.specs.Choosing.{Of}
-use Rattle.opening.specs.Opening.{fileHeaderSize, certificateCountOf, runCountOf, fileRows}
-use Rattle.heads.specs.Values.{certificateSize, runHeaderSize, certificatePlace, certificateOf, headerAt}
+use Rattle.opening.specs.Opening.{fileHeaderSize, versionOf, certificateCountOf, runCountOf, fileRows}
+use Rattle.heads.specs.Values.{certificateSize, runHeaderSize, spareByte, certificatePlace, certificateOf, headerAt}
 use Rattle.heads.specs.Rows.{certificateRows, headerRows}
 use Rattle.parts.specs.Values.{pointSize, segmentSize, weighingSize, pointPlace, segmentPlace, weighingPlace, pointAt, segmentAt, weighingAt, pointTotal, segmentTotal}
 use Rattle.parts.specs.Rows.{pointRows, segmentRows, weighingRows}
@@ -36,33 +37,36 @@ countsOf s k = headerAt s (runStart s k) .counts
 -- where a part starts
 abbrev pub startOf : List ℕ → Fixed → ℕ
 startOf s fileHeader = 0
-startOf s (oneCertificate k) = certificatePlace k
+startOf s (oneCertificate k) = certificatePlace (versionOf s) k
 startOf s (runHeader k) = runStart s k
-startOf s (onePoint k i) = pointPlace (runStart s k) i
-startOf s (oneSegment k i) = segmentPlace (runStart s k) (countsOf s k) i
-startOf s (oneWeighing k i) = weighingPlace (runStart s k) (countsOf s k) i
+startOf s (onePoint k i) = pointPlace (versionOf s) (runStart s k) i
+startOf s (oneSegment k i) = segmentPlace (versionOf s) (runStart s k) (countsOf s k) i
+startOf s (oneWeighing k i) = weighingPlace (versionOf s) (runStart s k) (countsOf s k) i
 
 -- how many bytes it has
-abbrev pub sizeOf : Fixed → ℕ
-sizeOf fileHeader = fileHeaderSize
-sizeOf (oneCertificate k) = certificateSize
-sizeOf (runHeader k) = runHeaderSize
-sizeOf (onePoint k i) = pointSize
-sizeOf (oneSegment k i) = segmentSize
-sizeOf (oneWeighing k i) = weighingSize
+abbrev pub sizeOf : List ℕ → Fixed → ℕ
+sizeOf s fileHeader = fileHeaderSize
+sizeOf s (oneCertificate k) = certificateSize (versionOf s)
+sizeOf s (runHeader k) = runHeaderSize (versionOf s)
+sizeOf s (onePoint k i) = pointSize
+sizeOf s (oneSegment k i) = segmentSize
+sizeOf s (oneWeighing k i) = weighingSize
 
 -- its fields that have a range, in order of place
 abbrev pub rowsOf : List ℕ → Fixed → List Row
 rowsOf s fileHeader = fileRows s
-rowsOf s (oneCertificate k) = certificateRows (certificateOf s k)
-rowsOf s (runHeader k) = let at : ℕ = startOf s (runHeader k) in headerRows (headerAt s at) (byteAt (drop at s) 63)
+rowsOf s (oneCertificate k) = certificateRows (versionOf s) (certificateOf s k)
+rowsOf s (runHeader k) =
+    let at : ℕ = startOf s (runHeader k) in
+    let v : Version = versionOf s in
+    headerRows v (headerAt s at) (spareByte v (drop at s))
 rowsOf s (onePoint k i) = pointRows (pointAt s (startOf s (onePoint k i)))
 rowsOf s (oneSegment k i) = segmentRows (segmentAt s (startOf s (oneSegment k i)))
 rowsOf s (oneWeighing k i) = let at : ℕ = startOf s (oneWeighing k i) in weighingRows (weighingAt s at) (byteAt (drop at s) 1)
 
 -- it ends within the file
 abbrev pub Complete : List ℕ → Fixed → Type 0
-Complete s r = startOf s r + sizeOf r ≤ length s
+Complete s r = startOf s r + sizeOf s r ≤ length s
 
 -- it is complete, and every field of it is in its range
 pub record Good (s : List ℕ) (r : Fixed) : Type 0 where
@@ -71,7 +75,7 @@ pub record Good (s : List ℕ) (r : Fixed) : Type 0 where
 
 -- Certificates
 
--- two certificates of one kind, maker, serial and day
+-- two certificates of one kind, maker, serial, letter and day
 pub record Repeats (a b : Certificate) : Type 0 where
   pub is : Of (b .kind) (b .identity) a
   pub day : a .day ≡ b .day

@@ -6,6 +6,8 @@ use lib.ListN.{replicate}
 use Rattle.lines.specs.Starred.{Example, roots, leak, workedLines}
 use Rattle.rules.specs.Starred.{StarredFactor, starredFactors, FactorStands, StarredIsokinetic, starredIsokinetic, IsokineticStands, StarredWeighing, starredWeighings, WeighingStands}
 use Rattle.distances.specs.Positions.{position, starredPositions}
+use Rattle.readings.specs.declared.headers.Version.{Version}
+use Rattle.readings.specs.declared.headers.Version.the-variants.{One, Two}
 use Rattle.records.specs.declared.Certificate.{Certificate}
 use Rattle.records.specs.declared.Run.{Run}
 use Rattle.records.specs.Worked.{workedCertificates, workedRun}
@@ -39,22 +41,26 @@ Stands (ofPositions ps) = map (position 6) (1 ∷ 2 ∷ 3 ∷ 4 ∷ 5 ∷ 6 ∷ 
 Stands (ofReading file job certificates run) =
     (readJob file ≡ job) × (map (certificateOf file) (0 ∷ 1 ∷ 2 ∷ 3 ∷ []) ≡ certificates) × (runOf file 0 ≡ run)
 
--- roots, leak and the worked job's lines; the factor moved and not moved; line 18 and weighings on either side; the positions; the worked job's file
+-- the worked job's file is read as its four certificates and its run, in either version
+abbrev pub workedFile : Version → StarredValue
+workedFile v = ofReading (workedJob v) (workedRead v) workedCertificates workedRun
+
+-- roots, leak and the worked job's lines; the factor moved and not moved; line 18 and weighings on either side; the positions; the worked job's file in either version
 abbrev pub starred : List StarredValue
 starred =
     map ofNumbers (roots ∷ leak ∷ workedLines ∷ [])
     ++ (map ofFactor starredFactors
     ++ (map ofPercent starredIsokinetic
     ++ (map ofWeighing starredWeighings
-    ++ (ofPositions starredPositions ∷ ofReading workedJob workedRead workedCertificates workedRun ∷ []))))
+    ++ (ofPositions starredPositions ∷ workedFile One ∷ workedFile Two ∷ []))))
 
 -- lines that are present, as bytes
 abbrev pub presentBytes : List ℕ → List ℕ
 presentBytes [] = []
 presentBytes (v ∷ vs) = (1 ∷ le 8 v) ++ presentBytes vs
 
--- The worked job, run 7, into buffers that just suffice: accepted with one finding, the twenty lines, and the note of rule 11 at segment 1
+-- The worked job, of version 1, run 7, into buffers that just suffice: accepted with one finding, the twenty lines, and the note of rule 11 at segment 1
 pub record PrintedJob : Type 0 where
-  pub answer : packed (answerOf (outcome workedJob 7 sheetSize findingSize)) ≡ 65537
-  pub lines : linesAfter (outcome workedJob 7 sheetSize findingSize) (replicate sheetSize 0) ≡ presentBytes (workedLines .expected)
-  pub findings : findingsAfter (outcome workedJob 7 sheetSize findingSize) (replicate findingSize 0) ≡ 11 ∷ 2 ∷ 1 ∷ 0 ∷ []
+  pub answer : packed (answerOf (outcome (workedJob One) 7 sheetSize findingSize)) ≡ 65537
+  pub lines : linesAfter (outcome (workedJob One) 7 sheetSize findingSize) (replicate sheetSize 0) ≡ presentBytes (workedLines .expected)
+  pub findings : findingsAfter (outcome (workedJob One) 7 sheetSize findingSize) (replicate findingSize 0) ≡ 11 ∷ 2 ∷ 1 ∷ 0 ∷ []

@@ -10,7 +10,7 @@ use Rattle.readings.specs.Ranges.{greatestTotalSeconds}
 use Rattle.fields.specs.Numbers.{u16At}
 use Rattle.fields.specs.Trouble.{Row}
 use Rattle.heads.specs.Values.{certificatePlace, certificateOf}
-use Rattle.opening.specs.Opening.{runCountOf, marked}
+use Rattle.opening.specs.Opening.{versionOf, runCountOf, marked}
 use Rattle.job.specs.Places.{runStart}
 use Rattle.reduction.specs.Reducing.{reducedRun}
 use Rattle.writing.specs.Bytes.{sheetSize, findingSize}
@@ -29,7 +29,7 @@ pub data NotNew (s : List ℕ) : ℕ → Type 0 where
       → Good s (oneCertificate k)
       → j < k
       → Repeats (certificateOf s j) (certificateOf s k)
-      → NotNew s (certificatePlace k)
+      → NotNew s (certificatePlace (versionOf s) k)
   numberNotAbove :
       (k : ℕ)
       → ReachedRun s (suc k)
@@ -40,16 +40,16 @@ pub data NotNew (s : List ℕ) : ℕ → Type 0 where
 -- A row applies to a file
 pub data FileRefused (s : List ℕ) : ℕ → ℕ → Type 0 where
   -- 1: the file ends before the header or a record is complete; the file's length
-  row1 : (r : Fixed) → Reached s r → length s < startOf s r + sizeOf r → FileRefused s 1 (length s)
+  row1 : (r : Fixed) → Reached s r → length s < startOf s r + sizeOf s r → FileRefused s 1 (length s)
   -- 2: wrong mark; 0
   row2 : Complete s fileHeader → marked s ≡ false → FileRefused s 2 0
   -- 3: wrong version; 3
-  row3 : Complete s fileHeader → marked s ≡ true → (u16At s 3 ≡ 1 → ⊥) → FileRefused s 3 3
+  row3 : Complete s fileHeader → marked s ≡ true → (u16At s 3 ≡ 1 → ⊥) → (u16At s 3 ≡ 2 → ⊥) → FileRefused s 3 3
   -- 4: a count out of range; that count
   row4 : (r : Fixed) → Reached s r → Complete s r → {place : ℕ} → FirstBad 4 place (rowsOf s r) → FileRefused s 4 (startOf s r + place)
   -- 5: another field out of range; that field's first byte
   row5 : (r : Fixed) → Reached s r → Complete s r → {place : ℕ} → FirstBad 5 place (rowsOf s r) → FileRefused s 5 (startOf s r + place)
-  -- 6: a certificate repeats kind, maker, serial and day of an earlier one, or a run number is not above the one before;
+  -- 6: a certificate repeats kind, maker, serial, letter and day of an earlier one, or a run number is not above the one before;
   -- record start
   row6 : {place : ℕ} → NotNew s place → FileRefused s 6 place
   -- 7: point seconds total over 36,000, or segment seconds total differs from it; run start

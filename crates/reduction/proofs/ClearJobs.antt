@@ -11,7 +11,7 @@ use Rattle.readings.specs.Ranges.{greatestRunCount}
 use Rattle.fields.specs.declared.trouble.Trouble.{Trouble}
 use Rattle.fields.specs.declared.trouble.Trouble.the-variants.{Clear, At}
 use Rattle.arrays.proofs.Arrays.{pad-at}
-use Rattle.parts.proofs.Places.{enough}
+use Rattle.fields.proofs.Tails.{enough}
 use Rattle.job.specs.declared.Job.{Job}
 use Rattle.opening.specs.Opening.{certificateCountOf, runCountOf}
 use Rattle.job.specs.Places.{runStart, runOf}

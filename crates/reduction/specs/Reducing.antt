@@ -17,7 +17,7 @@ use Rattle.certs.specs.InRange.{CertificatesOk}
 use Rattle.findings.specs.Listing.{accepted, linesFor, findingsFor, listed}
 use Rattle.heads.specs.Values.{certificatePlace, certificateOf}
 use Rattle.job.specs.declared.Job.{Job}
-use Rattle.opening.specs.Opening.{certificateCountOf, runCountOf}
+use Rattle.opening.specs.Opening.{versionOf, certificateCountOf, runCountOf}
 use Rattle.job.specs.Places.{runOf}
 use Rattle.job.specs.Reading.{readJob}
 use Rattle.job.specs.Troubles.{jobTrouble}
@@ -55,7 +55,7 @@ runNamed f number (suc k) = cond (eqb (f k .header .number) number) (Index k) (r
 
 -- the first n certificates lie within it, and can reduce a run
 pub record ReducibleFrom (s : List ℕ) (n : ℕ) (r : Run) : Type 0 where
-  pub within : certificatePlace n ≤ length s
+  pub within : certificatePlace (versionOf s) n ≤ length s
   pub reducible : Reducible (certificateOf s) n r
 
 -- a job read from it without trouble, and one of its runs

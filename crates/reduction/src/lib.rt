@@ -7,8 +7,10 @@ use findings::Findings;
 use job::Job;
 use lines::Sheet;
 use lines::sheets;
+use readings::headers::Version;
 use records::Run;
 ghost use mathlib.Core.Path.{_≡_};
+ghost use Rattle.opening.specs.Opening.{versionOf};
 ghost use Rattle.heads.specs.Values.{certificateOf};
 ghost use Rattle.job.specs.Places.{runOf};
 ghost use Rattle.reduction.specs.Reducing.{ReducibleFrom, ClearJob, ClearRun, reduction, runNamed, reducedRun};
@@ -27,12 +29,12 @@ pub enum Which {
     NoRun,
 }
 
-// A run, wherever it comes from, reduced with the first `count` certificates of a file, which are read at their place.
-pub fn work(s: &[u8], count: usize, run: Run) -> Reduced
-    requires { ⌜ ReducibleFrom (now s) count run ⌝ }
+// A run, wherever it comes from, reduced with the first `count` certificates of a file, which are read at their place by its version.
+pub fn work(s: &[u8], v: Version, count: usize, run: Run) -> Reduced
+    requires { ⌜ (v ≡ versionOf (now s)) × ReducibleFrom (now s) count run ⌝ }
     ensures { λ r. ⌜ r ≡ reduction (certificateOf (now (s .entry))) count run ⌝ }
 {
-    let chosen = certs::choose_all(s, count, run.header);
+    let chosen = certs::choose_all(s, v, count, run.header);
     let y = factor::factor_of(chosen);
     let cp = factor::coefficient_of(chosen);
     let nozzle = factor::diameters_of(chosen);
@@ -51,8 +53,9 @@ pub fn reduce(s: &[u8], job: Job, k: usize) -> Reduced
     requires { ⌜ ClearRun (now s) job k ⌝ }
     ensures { λ r. ⌜ r ≡ reducedRun (now (s .entry)) k ⌝ }
 {
+    let v = opening::version(s);
     let starts = job.starts;
-    work(s, job.certificates, parts::run(s, starts[k]))
+    work(s, v, job.certificates, parts::run(s, v, starts[k]))
 }
 
 // The run of that number in a job without trouble. Numbers rise, so there is at most one.

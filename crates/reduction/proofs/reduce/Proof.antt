@@ -26,20 +26,31 @@ unfolding reducedRun
 is-reduced {s} {j} {k} ok e ed =
     ed ∙ rw (this-run ok e, count-of-certificates s j (ok .job))
 
+version-requires : tie.Need-version-requires
+version-requires c κs =
+    let ok = c .before .pre in
+    omega (arith, workable _ _ (ok .job) _ (ok .inside) .within)
+
 mul-run : tie.Need-mul-run
-mul-run c = omega (arith, few-runs _ _ (c .before .before .pre .job), count-of-runs _ _ (c .before .before .pre .job), c .before .before .pre .inside)
+mul-run c =
+    let ok = c .before .before .before .pre in
+    omega (arith, few-runs _ _ (ok .job), count-of-runs _ _ (ok .job), ok .inside)
 
 array-read-run : tie.Need-array-read-run
-array-read-run c = omega (arith, few-runs _ _ (c .before .before .pre .job), count-of-runs _ _ (c .before .before .pre .job), c .before .before .pre .inside)
+array-read-run c =
+    let ok = c .before .before .before .pre in
+    omega (arith, few-runs _ _ (ok .job), count-of-runs _ _ (ok .job), ok .inside)
 
 run-requires : tie.Need-run-requires
-run-requires c κs = lies-within _ _ (c .before .before .pre .job) _ (c .before .before .pre .inside)
+run-requires c κs =
+    let ok = c .before .before .before .pre in
+    (c .before .version .ensures, lies-within _ _ (ok .job) _ (ok .inside))
 
 work-requires : tie.Need-work-requires
-work-requires c κs = ready (c .before .before .before .pre) (c .run .ensures)
+work-requires c κs = (c .before .before .version .ensures, ready (c .before .before .before .before .pre) (c .run .ensures))
 
 returns : tie.Need-returns
-returns c = is-reduced (c .before .before .before .before .pre) (c .before .run .ensures) (c .work .ensures)
+returns c = is-reduced (c .before .before .before .before .before .pre) (c .before .run .ensures) (c .work .ensures)
 
 pub reduce-spec : {M : Type 1} → statement M
-reduce-spec = tie.close (tie.spec mul-run array-read-run run-requires work-requires returns)
+reduce-spec = tie.close (tie.spec version-requires mul-run array-read-run run-requires work-requires returns)

@@ -11,7 +11,9 @@ use Rattle.reduction.proofs.work.Statement.{statement}
 use Rattle.reduction.proofs.work.Tie as tie
 
 choose-all-requires : tie.Need-choose-all-requires
-choose-all-requires c κs = search needs
+choose-all-requires c κs =
+    let start = c .before in
+    (start .pre .0, rw (start .pre .0) (start .pre .1 .within))
 
 factor-of-requires : tie.Need-factor-of-requires
 factor-of-requires c κs = search needs
@@ -23,12 +25,12 @@ diameters-of-requires : tie.Need-diameters-of-requires
 diameters-of-requires c κs = search needs
 
 lines-requires : tie.Need-lines-requires
-lines-requires c κs = lines-workable _ _ _ (c .before .before .before .before .before .pre .reducible) (c .before .before .before .choose-all .ensures) (c .before .before .factor-of .ensures) (c .before .coefficient-of .ensures) (c .diameters-of .ensures)
+lines-requires c κs = lines-workable _ _ _ (c .before .before .before .before .before .pre .1 .reducible) (c .before .before .before .choose-all .ensures) (c .before .before .factor-of .ensures) (c .before .coefficient-of .ensures) (c .diameters-of .ensures)
 
 find-requires : tie.Need-find-requires
 find-requires c κs =
     record {
-      ok = c .before .before .before .before .before .before .pre .reducible .run;
+      ok = c .before .before .before .before .before .before .pre .1 .reducible .run;
       lines = lines-worked _ _ (c .before .before .before .factor-of .ensures) (c .before .before .coefficient-of .ensures) (c .before .diameters-of .ensures) (c .lines .ensures .0);
     }
 
