@@ -2,16 +2,45 @@
 //! checked here: values out of range make a job that reading refuses.
 
 pub const MARK: &[u8; 3] = b"SRJ";
-pub const VERSION: u16 = 1;
 pub const HEADER_LENGTH: usize = 9;
+/// Without its letter.
 pub const CERTIFICATE_LENGTH: usize = 16;
+/// A run's own part, before its points, without its three letters.
 pub const RUN_LENGTH: usize = 64;
 pub const POINT_LENGTH: usize = 12;
 pub const SEGMENT_LENGTH: usize = 4;
 pub const WEIGHING_LENGTH: usize = 14;
 
+/// The letter of an instrument that has none.
+pub const NO_LETTER: u8 = 0;
+
+/// A version of the job file. Version 2 has a byte behind each serial, for a
+/// letter; in version 1 every letter is none.
+#[derive(Clone, Copy, Debug, PartialEq, Eq)]
+pub enum Version {
+    One = 1,
+    Two = 2,
+}
+
+impl Version {
+    pub const ALL: [Version; 2] = [Version::One, Version::Two];
+
+    pub fn has_letters(self) -> bool {
+        self == Version::Two
+    }
+
+    pub fn certificate_length(self) -> usize {
+        CERTIFICATE_LENGTH + usize::from(self.has_letters())
+    }
+
+    pub fn run_length(self) -> usize {
+        RUN_LENGTH + 3 * usize::from(self.has_letters())
+    }
+}
+
 #[derive(Clone, Debug, PartialEq, Eq)]
 pub struct Job {
+    pub version: Version,
     pub certificates: Vec<Certificate>,
     pub runs: Vec<Run>,
 }
@@ -29,6 +58,8 @@ pub enum Kind {
 pub struct Instrument {
     pub maker: [u8; 3],
     pub serial: u32,
+    /// A to Z for a rebuilt one, or [`NO_LETTER`].
+    pub letter: u8,
 }
 
 #[derive(Clone, Copy, Debug, PartialEq, Eq)]
@@ -138,26 +169,39 @@ impl Weighing {
 }
 
 impl Job {
+    /// Every place where it names an instrument.
+    pub fn instruments_mut(&mut self) -> impl Iterator<Item = &mut Instrument> {
+        let certified = self.certificates.iter_mut();
+        let used = self.runs.iter_mut();
+        certified
+            .map(|certificate| &mut certificate.instrument)
+            .chain(used.flat_map(|run| [&mut run.meter, &mut run.pitot, &mut run.nozzle]))
+    }
+
+    /// In the job's version: letters are left out where it has none.
     pub fn bytes(&self) -> Vec<u8> {
         let mut bytes = Vec::new();
         bytes.extend(MARK);
-        bytes.extend(VERSION.to_le_bytes());
+        bytes.extend((self.version as u16).to_le_bytes());
         bytes.extend((self.certificates.len() as u16).to_le_bytes());
         bytes.extend((self.runs.len() as u16).to_le_bytes());
         for certificate in &self.certificates {
-            certificate.append_to(&mut bytes);
+            certificate.append_to(&mut bytes, self.version);
         }
         for run in &self.runs {
-            run.append_to(&mut bytes);
+            run.append_to(&mut bytes, self.version);
         }
         bytes
     }
 }
 
 impl Instrument {
-    fn append_to(&self, bytes: &mut Vec<u8>) {
+    fn append_to(&self, bytes: &mut Vec<u8>, version: Version) {
         bytes.extend(self.maker);
         bytes.extend(self.serial.to_le_bytes());
+        if version.has_letters() {
+            bytes.push(self.letter);
+        }
     }
 }
 
@@ -171,9 +215,9 @@ impl Certificate {
         }
     }
 
-    fn append_to(&self, bytes: &mut Vec<u8>) {
+    fn append_to(&self, bytes: &mut Vec<u8>, version: Version) {
         bytes.push(self.kind as u8);
-        self.instrument.append_to(bytes);
+        self.instrument.append_to(bytes, version);
         bytes.extend(self.day.to_le_bytes());
         for value in self.values {
             bytes.extend(value.to_le_bytes());
@@ -182,12 +226,12 @@ impl Certificate {
 }
 
 impl Run {
-    fn append_to(&self, bytes: &mut Vec<u8>) {
+    fn append_to(&self, bytes: &mut Vec<u8>, version: Version) {
         bytes.extend(self.number.to_le_bytes());
         bytes.extend(self.day.to_le_bytes());
-        self.meter.append_to(bytes);
-        self.pitot.append_to(bytes);
-        self.nozzle.append_to(bytes);
+        self.meter.append_to(bytes, version);
+        self.pitot.append_to(bytes, version);
+        self.nozzle.append_to(bytes, version);
         bytes.extend(self.barometer.to_le_bytes());
         bytes.extend(self.stack_static.to_le_bytes());
         bytes.extend(self.co2.to_le_bytes());

@@ -1,6 +1,7 @@
 //! Jobs worth showing: the worked job of docs/RULES.md, one of several runs, one at the
-//! limits of the percent isokinetic, one at those of a weighing, one that is refused,
-//! and the longest a file can hold.
+//! limits of the percent isokinetic, one at those of a weighing, one with a rebuilt meter
+//! and the same without its letter, one that is refused, and the longest that a file of
+//! each version can hold.
 
 use crate::job::*;
 
@@ -18,12 +19,14 @@ const fn instrument(maker: &[u8; 3], serial: u32) -> Instrument {
     Instrument {
         maker: *maker,
         serial,
+        letter: NO_LETTER,
     }
 }
 
 /// The job whose whole sheet the rules print: one accepted run with one note.
 pub fn worked() -> Job {
     Job {
+        version: Version::One,
         certificates: vec![
             meter(ABC_METER, CALIBRATED, 10_000),
             meter(ABC_METER, RECALIBRATED, 9_800),
@@ -174,6 +177,7 @@ pub fn several_runs() -> Job {
         ..worked_run()
     };
     Job {
+        version: Version::One,
         certificates: vec![
             meter(ABC_METER, CALIBRATED, 10_000),
             meter(XYZ_METER, 8_980, 10_300),
@@ -316,6 +320,48 @@ fn weighed(number: u16, net: i32, difference: u32) -> Run {
     run
 }
 
+/// A meter is rebuilt on day 9008 and has the letter A from then on. Sampled before
+/// that, after that but before its next certificate, and after that one.
+pub fn rebuilt_meter() -> Job {
+    let rebuilt = Instrument {
+        letter: b'A',
+        ..ABC_METER
+    };
+    let sampled = |number, day, meter| Run {
+        number,
+        day,
+        meter,
+        ..worked_run()
+    };
+    Job {
+        version: Version::Two,
+        certificates: vec![
+            meter(ABC_METER, CALIBRATED, 10_000),
+            meter(ABC_METER, 9_005, 10_020),
+            meter(rebuilt, 9_010, 9_800),
+            meter(rebuilt, RECALIBRATED, 9_790),
+            pitot(PITOT, CALIBRATED, 840),
+            nozzle(NOZZLE, CALIBRATED, [250, 250, 250]),
+        ],
+        runs: vec![
+            sampled(7, SAMPLED, ABC_METER),
+            sampled(8, 9_009, rebuilt),
+            sampled(9, 9_012, rebuilt),
+        ],
+    }
+}
+
+/// The same in version 1, which has no letters: run 8 is worked with a certificate
+/// from before the rebuild.
+pub fn rebuilt_meter_no_letter() -> Job {
+    let mut job = rebuilt_meter();
+    job.version = Version::One;
+    for instrument in job.instruments_mut() {
+        instrument.letter = NO_LETTER;
+    }
+    job
+}
+
 /// Refused with 5: the third point's stack temperature is -40.1 F.
 pub fn refused() -> Job {
     let mut job = worked();
@@ -328,7 +374,27 @@ pub fn refused() -> Job {
 pub fn longest() -> Job {
     let certificates = (1..=16).flat_map(certificates_of_longest).collect();
     let runs = (1..=16).map(run_of_longest).collect();
-    Job { certificates, runs }
+    Job {
+        version: Version::One,
+        certificates,
+        runs,
+    }
+}
+
+/// 17,273 bytes: the same in version 2, with letters, from none to O, where
+/// `longest` has the serials from 1 to 16. They alone tell its meters apart, and so
+/// its pitots and its nozzles.
+pub fn longest_version_2() -> Job {
+    let mut job = longest();
+    job.version = Version::Two;
+    for instrument in job.instruments_mut() {
+        instrument.letter = match instrument.serial {
+            1 => NO_LETTER,
+            serial => b'A' + serial as u8 - 2,
+        };
+        instrument.serial = 1;
+    }
+    job
 }
 
 fn instruments_of_longest(k: u16) -> [Instrument; 3] {

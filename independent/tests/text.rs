@@ -15,7 +15,9 @@ fn an_output_of_the_exact_length_is_filled() {
     for job in [
         samples::worked(),
         samples::several_runs(),
+        samples::rebuilt_meter(),
         samples::longest(),
+        samples::longest_version_2(),
     ] {
         let job = job.bytes();
         let text = sheet(&job);

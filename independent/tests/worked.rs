@@ -1,5 +1,6 @@
-//! The job the rules print, through every call.
+//! The job the rules print, through every call and in either version.
 
+use independent::job::{Job, Version};
 use independent::{reduce, run_count, run_number, samples, sheet, ACCEPTED};
 
 const PRINTED: &str = "\
@@ -27,26 +28,51 @@ RUN 7 ACCEPTED
 NOTE 11 1
 ";
 
+fn worked_in(version: Version) -> Vec<u8> {
+    let job = Job {
+        version,
+        ..samples::worked()
+    };
+    job.bytes()
+}
+
+#[test]
+fn has_its_length() {
+    assert_eq!(
+        Version::ALL.map(|version| worked_in(version).len()),
+        [265, 272]
+    );
+}
+
 #[test]
 fn prints_the_whole_output() {
-    let text = sheet(&samples::worked().bytes());
-    assert_eq!(String::from_utf8(text).unwrap(), PRINTED);
+    for version in Version::ALL {
+        let text = sheet(&worked_in(version));
+        assert_eq!(String::from_utf8(text).unwrap(), PRINTED);
+    }
 }
 
 #[test]
 fn counts_and_names_its_run() {
-    let job = samples::worked().bytes();
-    assert_eq!(run_count(&job), 1);
-    assert_eq!(run_number(&job, 0), 7);
-    assert_eq!(run_number(&job, 1), 10 << 32);
+    for version in Version::ALL {
+        let job = worked_in(version);
+        assert_eq!(run_count(&job), 1);
+        assert_eq!(run_number(&job, 0), 7);
+        assert_eq!(run_number(&job, 1), 10 << 32);
+    }
 }
 
 #[test]
 fn fills_both_outputs_and_nothing_beyond() {
-    let job = samples::worked().bytes();
+    for version in Version::ALL {
+        fills_both_outputs(&worked_in(version));
+    }
+}
+
+fn fills_both_outputs(job: &[u8]) {
     let mut lines = [0xA5; 190];
     let mut findings = [0x5A; 10];
-    let answer = reduce(&job, 7, &mut lines, &mut findings);
+    let answer = reduce(job, 7, &mut lines, &mut findings);
     assert_eq!(answer, u64::from(ACCEPTED) + 1);
 
     let printed = PRINTED.lines().skip(1).take(20);
@@ -73,10 +99,15 @@ fn an_absent_line_is_nine_zero_bytes() {
 }
 
 #[test]
-fn the_longest_job_is_read() {
-    let job = samples::longest().bytes();
-    assert_eq!(job.len(), 17_161);
-    assert_eq!(run_count(&job), 16);
+fn the_longest_jobs_are_read() {
+    for (job, length) in [
+        (samples::longest(), 17_161),
+        (samples::longest_version_2(), 17_273),
+    ] {
+        let job = job.bytes();
+        assert_eq!(job.len(), length);
+        assert_eq!(run_count(&job), 16);
+    }
 }
 
 #[test]
