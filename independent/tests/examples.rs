@@ -40,10 +40,23 @@ fn examples_are_current() {
         example!("weighing-limits.txt"),
     );
     check(
+        "rebuilt-meter",
+        &samples::rebuilt_meter(),
+        example!("rebuilt-meter.job"),
+        example!("rebuilt-meter.txt"),
+    );
+    check(
+        "rebuilt-meter-no-letter",
+        &samples::rebuilt_meter_no_letter(),
+        example!("rebuilt-meter-no-letter.job"),
+        example!("rebuilt-meter-no-letter.txt"),
+    );
+    check(
         "refused",
         &samples::refused(),
         example!("refused.job"),
         example!("refused.txt"),
     );
     assert!(samples::longest().bytes() == example!("longest.job"));
+    assert!(samples::longest_version_2().bytes() == example!("longest-version-2.job"));
 }

@@ -13,12 +13,27 @@ fn main() -> io::Result<()> {
     write_with_sheet(folder, "several-runs", &samples::several_runs())?;
     write_with_sheet(folder, "percent-limits", &samples::percent_limits())?;
     write_with_sheet(folder, "weighing-limits", &samples::weighing_limits())?;
+    write_with_sheet(folder, "rebuilt-meter", &samples::rebuilt_meter())?;
+    write_with_sheet(
+        folder,
+        "rebuilt-meter-no-letter",
+        &samples::rebuilt_meter_no_letter(),
+    )?;
     write_with_sheet(folder, "refused", &samples::refused())?;
-    fs::write(folder.join("longest.job"), samples::longest().bytes())
+    write(folder, "longest", &samples::longest().bytes())?;
+    write(
+        folder,
+        "longest-version-2",
+        &samples::longest_version_2().bytes(),
+    )
 }
 
 fn write_with_sheet(folder: &Path, name: &str, job: &Job) -> io::Result<()> {
     let bytes = job.bytes();
-    fs::write(folder.join(format!("{name}.job")), &bytes)?;
+    write(folder, name, &bytes)?;
     fs::write(folder.join(format!("{name}.txt")), sheet(&bytes))
+}
+
+fn write(folder: &Path, name: &str, job: &[u8]) -> io::Result<()> {
+    fs::write(folder.join(format!("{name}.job")), job)
 }
