@@ -26,9 +26,11 @@ pub fn print_table() {
 
 fn subjects() -> Vec<Subject> {
     let longest = samples::longest();
+    // Those of the longest job of version 2 have the same numbers.
     let numbers: Vec<u16> = longest.runs.iter().map(|run| run.number).collect();
     let (first, last) = (numbers[0], numbers[numbers.len() - 1]);
     let longest = longest.bytes();
+    let longest_2 = samples::longest_version_2().bytes();
     let mut bad_mark = longest.clone();
     bad_mark[0] = b'X';
     let mut left_over = longest.clone();
@@ -49,9 +51,20 @@ fn subjects() -> Vec<Subject> {
         reduce("worked job", worked.clone(), 7),
         reduce("longest job, first run", longest.clone(), first),
         reduce("longest job, last run", longest.clone(), last),
+        reduce(
+            "longest job of version 2, first run",
+            longest_2.clone(),
+            first,
+        ),
+        reduce(
+            "longest job of version 2, last run",
+            longest_2.clone(),
+            last,
+        ),
         reduce("refused early: wrong mark", bad_mark, first),
         reduce("refused at its end: a byte left over", left_over, first),
         text("text of the worked job", worked),
         text("text of the longest job", longest),
+        text("text of the longest job of version 2", longest_2),
     ]
 }
