@@ -1,4 +1,5 @@
-//! The same calls with the same lent bytes on both sides, and where they part.
+//! The same calls with the same lent bytes on both sides, or on a job and its twin in
+//! the other version, and where they part.
 
 use leverbonnet::pipe::Call;
 
@@ -15,21 +16,26 @@ pub const INDEPENDENT: Side = Side {
     sheet_text: independent::sheet_text,
 };
 
-/// Where the two sides part, and what each gave.
+/// Where two that should give the same part, and what each gave.
 pub struct Difference {
     pub what: String,
-    pub proved: String,
-    pub independent: String,
+    pub given: String,
 }
 
 impl Difference {
+    /// The two sides part.
+    pub fn of_sides(what: String, proved: &str, independent: &str) -> Self {
+        let given = format!("proved: {proved}\nindependent: {independent}");
+        Difference { what, given }
+    }
+
     /// Both sides agree, but not on what was to come.
     pub fn unexpected(what: &str, expected: Expected, refusal: u32) -> Self {
-        Difference {
-            what: format!("{what}, where {expected:?} was to come"),
-            proved: format!("refusal {refusal} (0 is success)"),
-            independent: "the same".into(),
-        }
+        Difference::of_sides(
+            format!("{what}, where {expected:?} was to come"),
+            &format!("refusal {refusal} (0 is success)"),
+            "the same",
+        )
     }
 }
 
@@ -45,20 +51,42 @@ pub fn agreed(proved: &Proved, calls: &[Call], job: &[u8]) -> Result<Vec<Outcome
     for (trial, proved) in trials.iter().zip(proved.made(&trials, job)) {
         let independent = trial.made(&INDEPENDENT, job);
         if proved.as_ref() != Ok(&independent) {
-            let Trial { call, fill } = trial;
-            return Err(Difference {
-                what: format!("{call:?}, outputs filled with {fill:?}"),
-                proved: match proved {
-                    Ok(outcome) => outcome.to_string(),
-                    Err(trouble) => trouble,
-                },
-                independent: independent.to_string(),
-            });
+            let (what, independent) = (trial.to_string(), independent.to_string());
+            return Err(Difference::of_sides(what, &told(proved), &independent));
         }
         outcomes.push(independent);
     }
     assert_eq!(outcomes.len(), trials.len(), "every call was made");
     Ok(outcomes.into_iter().step_by(fills.len()).collect())
+}
+
+fn told(made: Result<Outcome, String>) -> String {
+    match made {
+        Ok(outcome) => outcome.to_string(),
+        Err(trouble) => trouble,
+    }
+}
+
+/// Whether each call on a job's twin gives of the proved library what it gave on the
+/// job itself.
+pub fn agreed_on_twin(
+    proved: &Proved,
+    calls: &[Call],
+    on_job: &[Outcome],
+    twin: &[u8],
+) -> Result<(), Difference> {
+    let [fill, _] = proved.fills();
+    let trials: Vec<Trial> = calls.iter().map(|&call| Trial { call, fill }).collect();
+    let on_twin = proved.made(&trials, twin);
+    for ((trial, on_job), on_twin) in trials.iter().zip(on_job).zip(on_twin) {
+        if on_twin.as_ref() != Ok(on_job) {
+            return Err(Difference {
+                what: format!("{trial}, on the job and on its twin in the other version"),
+                given: format!("on the job: {on_job}\non its twin: {}", told(on_twin)),
+            });
+        }
+    }
+    Ok(())
 }
 
 /// The same, when each call also comes to what was to come of it.

@@ -43,10 +43,9 @@ impl Case {
     }
 
     pub fn changed(name: String, job: Job, changes: Vec<Change>, expected: Expected) -> Self {
-        let subject = Subject { job, changes };
         Case {
-            name,
-            subject,
+            name: format!("version {}, {name}", job.version as u16),
+            subject: Subject { job, changes },
             expected,
         }
     }

@@ -1,11 +1,12 @@
-//! How many cases there are of each kind that may be many. Every kind stands in
-//! both extents.
+//! How many cases there are of each kind that may be many, in each version. Every
+//! kind stands in both extents.
 
 pub struct Extent {
     pub damaged_jobs: u64,
     pub random_jobs: u64,
     pub longest_jobs: u64,
-    /// One in so many of the jobs that hold every head there is.
+    /// One in so many of the jobs that hold every head there is, not the same ones in
+    /// both versions: with 2, each stands in one of them.
     pub one_job_of_heads_in: usize,
     pub random_rectangles: u64,
     /// Each byte of the worked job with every other value, or with telling ones.
@@ -27,37 +28,37 @@ pub struct Sheets {
 }
 
 pub const FULL: Extent = Extent {
-    damaged_jobs: 40_000,
-    random_jobs: 10_000,
-    longest_jobs: 12,
-    one_job_of_heads_in: 1,
+    damaged_jobs: 15_000,
+    random_jobs: 3_000,
+    longest_jobs: 6,
+    one_job_of_heads_in: 2,
     random_rectangles: 20_000,
     every_value: true,
     every_pairing: true,
     sheets: Sheets {
-        damaged_jobs: 900,
-        random_jobs: 600,
-        longest_jobs: 12,
-        one_truncation_in: 1,
-        one_change_in: 1,
+        damaged_jobs: 450,
+        random_jobs: 300,
+        longest_jobs: 6,
+        one_truncation_in: 2,
+        one_change_in: 2,
     },
 };
 
-/// Few enough for emulated calls, of which there are then some 530,000, and for
+/// Few enough for emulated calls, of which there are then some 550,000, and for
 /// emulated programs, of which each sheet starts one.
 pub const LIGHT: Extent = Extent {
-    damaged_jobs: 9_000,
-    random_jobs: 4_000,
-    longest_jobs: 4,
-    one_job_of_heads_in: 9,
+    damaged_jobs: 3_000,
+    random_jobs: 2_000,
+    longest_jobs: 2,
+    one_job_of_heads_in: 18,
     random_rectangles: 4_000,
     every_value: false,
     every_pairing: false,
     sheets: Sheets {
-        damaged_jobs: 96,
-        random_jobs: 60,
+        damaged_jobs: 48,
+        random_jobs: 30,
         longest_jobs: 1,
-        one_truncation_in: 5,
-        one_change_in: 23,
+        one_truncation_in: 10,
+        one_change_in: 47,
     },
 };

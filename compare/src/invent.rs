@@ -8,13 +8,16 @@ mod runs;
 
 use std::collections::BTreeSet;
 
-use independent::job::{Job, Run};
+use independent::job::{Job, Run, Version, NO_LETTER};
 use independent::{work, Isokinetic};
 
 use crate::random::Random;
 
 const MOST_RUNS: usize = 16;
 const MOST_METERED: i64 = 999_999;
+
+/// Few, so that instruments meet that differ by the letter alone.
+const LETTERS: [u8; 4] = [NO_LETTER, NO_LETTER, b'A', b'Z'];
 
 /// How a job is made.
 #[derive(Clone, Copy)]
@@ -23,38 +26,55 @@ struct Style {
     wildness: u64,
     /// Whether every count is at its greatest.
     full: bool,
+    /// What its instruments have one of.
+    letters: &'static [u8],
 }
 
 /// A job of a few runs, mostly, or of many.
-pub fn job(random: &mut Random) -> Job {
+pub fn job(random: &mut Random, version: Version) -> Job {
     let runs = random.pick(&[1, 1, 1, 1, 2, 2, 3, 4, MOST_RUNS]);
-    job_of(random, runs, false)
+    job_of(random, version, runs, false)
 }
 
 /// A job of one to three runs.
-pub fn short_job(random: &mut Random) -> Job {
+pub fn short_job(random: &mut Random, version: Version) -> Job {
     let runs = random.pick(&[1, 1, 2, 3]);
-    job_of(random, runs, false)
+    job_of(random, version, runs, false)
 }
 
 /// A job in which every count is at its greatest.
-pub fn longest_job(random: &mut Random) -> Job {
-    job_of(random, MOST_RUNS, true)
+pub fn longest_job(random: &mut Random, version: Version) -> Job {
+    job_of(random, version, MOST_RUNS, true)
 }
 
-fn job_of(random: &mut Random, run_count: usize, full: bool) -> Job {
-    let wildness = random.pick(&[0, 2, 5, 10, 30, 100]);
-    let style = Style { wildness, full };
+fn job_of(random: &mut Random, version: Version, run_count: usize, full: bool) -> Job {
+    let style = Style {
+        wildness: random.pick(&[0, 2, 5, 10, 30, 100]),
+        full,
+        letters: letters(random, version),
+    };
     let runs: Vec<Run> = numbers(random, run_count)
         .into_iter()
         .map(|number| runs::run(random, number, style))
         .collect();
     let certificates = certificates::certificates(random, &runs, style);
-    let mut job = Job { certificates, runs };
+    let mut job = Job {
+        version,
+        certificates,
+        runs,
+    };
     if random.percent(15) {
         tune_isokinetic(random, &mut job);
     }
     job
+}
+
+/// None where the version has none, and now and then where it has them.
+fn letters(random: &mut Random, version: Version) -> &'static [u8] {
+    match version.has_letters() && random.percent(85) {
+        true => &LETTERS,
+        false => &[NO_LETTER],
+    }
 }
 
 /// Rising run numbers, sometimes from 1 on, sometimes up to 999.
@@ -74,7 +94,9 @@ fn tune_isokinetic(random: &mut Random, job: &mut Job) {
         false => |exact| exact.is_above(11_000),
     };
     let tuned = random.below(job.runs.len());
-    let Job { certificates, runs } = job;
+    let Job {
+        certificates, runs, ..
+    } = job;
     let run = &mut runs[tuned];
     let first = run.first_reading;
     let (mut short, mut reached) = (0, MOST_METERED as u32);

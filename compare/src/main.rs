@@ -1,6 +1,7 @@
 //! Compares the proved library, and the program `sheet`, with the independent
-//! program, byte for byte, and fails where they disagree. What the jobs
-//! reached is counted and shown; a count that must not be 0 fails it too.
+//! program, byte for byte, on jobs of either version, and fails where they disagree.
+//! A job without letters is compared with the same in the other version, too. What the
+//! jobs reached is counted and shown; a count that must not be 0 fails it too.
 //!
 //!     --sheet COMMAND   the program `sheet` (or set SHEET)
 //!     --library-only    leaves the program out, on purpose
@@ -30,6 +31,7 @@ mod sections;
 mod shrink;
 mod spoil;
 mod tally;
+mod versions;
 
 use std::process::ExitCode;
 

@@ -3,11 +3,21 @@
 
 use std::ops::RangeInclusive;
 
+use independent::job::Version;
+
+/// How far the seeds of the versions' cases are apart: more than there are cases.
+const VERSIONS_APART: u64 = 0x8_0000;
+
 pub struct Random(u64);
 
 impl Random {
     pub fn new(seed: u64) -> Self {
         Random(seed)
+    }
+
+    /// For the case of that index among those of its kind and version.
+    pub fn for_case(seed: u64, version: Version, index: u64) -> Self {
+        Random::new(seed + version as u64 * VERSIONS_APART + index)
     }
 
     pub fn word(&mut self) -> u64 {

@@ -1,5 +1,5 @@
 //! What a failed comparison says: the case, the smallest job found for it, and
-//! what each side gave on that.
+//! what was given on that where the same should have been.
 
 use std::fmt;
 
@@ -21,7 +21,6 @@ impl fmt::Display for Failure {
             writeln!(f, "  {}", hex(job))?;
         }
         writeln!(f, "on {}", self.difference.what)?;
-        writeln!(f, "proved: {}", self.difference.proved)?;
-        write!(f, "independent: {}", self.difference.independent)
+        write!(f, "{}", self.difference.given)
     }
 }

@@ -71,7 +71,11 @@ impl Section {
     }
 
     /// Compares the library with outputs of many lengths.
-    pub fn outputs(mut self, proved: &Proved, cases: Vec<Outputs>) -> Result<Tally, Failure> {
+    pub fn outputs(
+        mut self,
+        proved: &Proved,
+        cases: impl Iterator<Item = Outputs>,
+    ) -> Result<Tally, Failure> {
         for outputs in cases {
             let job = outputs.case.subject.bytes();
             for some in outputs.calls().chunks(TOGETHER) {

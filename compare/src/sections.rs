@@ -3,6 +3,7 @@
 
 use std::{panic, thread};
 
+use independent::job::Version;
 use leverbonnet::pipe::CommandLine;
 
 use crate::arguments::Arguments;
@@ -33,9 +34,7 @@ pub fn unreached(given: &Arguments) -> Result<Vec<String>, String> {
     all.add(&others.all);
     println!("all refusals: {}", all.refusals_text());
     let mut unreached = read.told.unreached_by_reading();
-    // The damaged jobs reach what a job's reading and its runs can refuse; 11
-    // is for layouts.
-    unreached.extend(others.told.unreached_refusals(1..=10));
+    unreached.extend(others.told.unreached_by_refusing());
     unreached.extend(all.unreached_refusals(11..=11));
     Ok(unreached)
 }
@@ -51,47 +50,53 @@ fn alone(
     Ok(compared)
 }
 
-/// The worked job and what it becomes by a byte, and jobs that are read: random
-/// ones, every velocity head, the longest.
+/// The cases of one version, and then those of the other.
+fn in_both<Cases: IntoIterator>(
+    cases: impl Fn(Version) -> Cases,
+) -> impl Iterator<Item = Cases::Item> {
+    Version::ALL.into_iter().flat_map(cases)
+}
+
+/// The worked job and what it becomes by a byte, and random jobs that are read.
 fn read_jobs(proved: &Proved) -> Result<Half, Failure> {
     let extent = proved.extent();
     let mut all = Tally::default();
-    let worked = [
-        cases::worked::whole(),
-        cases::worked::thinnest(),
-        cases::worked::at_percent_limits(),
-        cases::worked::at_weighing_limits(),
-    ]
-    .into_iter()
-    .chain(cases::worked::truncations())
-    .chain(cases::worked::changes(extent.every_value));
+    let worked = in_both(|version| {
+        cases::worked::read(version)
+            .into_iter()
+            .chain(cases::worked::truncations(version))
+            .chain(cases::worked::changes(version, extent.every_value))
+    });
     all.add(&Section::new("worked job").library(proved, worked)?);
 
-    let random = cases::random::cases(extent.random_jobs);
+    let random = in_both(|version| cases::random::cases(version, extent.random_jobs));
     let random = Section::new("random jobs").library(proved, random)?;
     println!("{random}");
     all.add(&random);
-
-    let heads = cases::heads::cases(extent.one_job_of_heads_in);
-    all.add(&Section::new("velocity heads").library(proved, heads)?);
-    let longest = cases::longest::cases(extent.longest_jobs);
-    all.add(&Section::new("longest jobs").library(proved, longest)?);
     Ok(Half { told: random, all })
 }
 
-/// Damaged jobs, large files, outputs of many lengths, layouts, and printed sheets.
+/// Damaged jobs, every velocity head, the longest jobs, large files, outputs of many
+/// lengths, layouts, and printed sheets.
 fn others(proved: &Proved, sheet: Option<&CommandLine>) -> Result<Half, Failure> {
     let extent = proved.extent();
     let mut all = Tally::default();
-    let damaged = cases::damaged::cases(extent.damaged_jobs);
+    let damaged = in_both(|version| cases::damaged::cases(version, extent.damaged_jobs));
     let damaged = Section::new("damaged jobs").library(proved, damaged)?;
+    println!("{}", damaged.refused_text());
     all.add(&damaged);
 
-    all.add(&Section::new("large files").library(proved, cases::large::cases().into_iter())?);
-    all.add(&Section::new("output lengths").outputs(proved, cases::outputs::cases())?);
+    let heads = in_both(|version| cases::heads::cases(version, extent.one_job_of_heads_in));
+    all.add(&Section::new("velocity heads").library(proved, heads)?);
+    let longest = in_both(|version| cases::longest::cases(version, extent.longest_jobs));
+    all.add(&Section::new("longest jobs").library(proved, longest)?);
+    let large = in_both(cases::large::cases);
+    all.add(&Section::new("large files").library(proved, large)?);
+    let outputs = in_both(cases::outputs::cases);
+    all.add(&Section::new("output lengths").outputs(proved, outputs)?);
     all.add(&Section::new("layouts").layouts(proved, cases::layouts::calls(extent))?);
     if let Some(program) = sheet {
-        let cases = cases::sheet::cases(&extent.sheets);
+        let cases = in_both(|version| cases::sheet::cases(version, &extent.sheets));
         Section::new("printed sheets").sheets(program, cases)?;
     }
     Ok(Half { told: damaged, all })

@@ -6,21 +6,24 @@ use independent::job::*;
 use crate::case::{Change, Expected, Subject};
 use crate::fields::{Field, POINT, POINT_SECONDS, RUN, SEGMENT_LEAK, SEGMENT_SECONDS, WEIGHING};
 use crate::random::Random;
+use crate::versions::other;
 
 pub type Spoil = fn(&mut Random, &mut Subject) -> Expected;
 
-pub const SPOILS: [(&str, Spoil); 16] = [
+pub const SPOILS: [(&str, Spoil); 18] = [
     ("cut short", cut),
     ("bytes left over", leave_over),
     ("bytes changed", change_bytes),
     ("wrong mark", wrong_mark),
     ("wrong version", wrong_version),
+    ("the other version", other_version),
     ("count out of range", count_outside),
     ("another count in range", another_count),
     ("run field outside", run_field_outside),
     ("record field outside", record_field_outside),
     ("dependent field outside", dependent_field_outside),
     ("instrument outside", instrument_outside),
+    ("letter outside", letter_outside),
     ("certificate value outside", certificate_value_outside),
     ("byte with few values", chosen_byte_outside),
     ("certificate repeated", repeat_certificate),
@@ -64,40 +67,68 @@ fn wrong_mark(random: &mut Random, subject: &mut Subject) -> Expected {
 }
 
 fn wrong_version(random: &mut Random, subject: &mut Subject) -> Expected {
-    let (at, value) = random.pick(&[(3, 0), (3, 2), (3, 255), (4, 1)]);
-    set(subject, at, value);
+    let version: u16 = random.pick(&[0, 3, 255, 256, 257, 258, 512, 65_535]);
+    let [low, high] = version.to_le_bytes();
+    set(subject, 3, low);
+    set(subject, 4, high);
     Expected::Refused(3)
+}
+
+/// What follows is then read as something else, and any trouble may come first.
+fn other_version(_: &mut Random, subject: &mut Subject) -> Expected {
+    let version = other(subject.job.version);
+    set(subject, 3, version as u8);
+    Expected::Either
 }
 
 /// A random run and where it starts, as the values alone would have it.
 fn any_run(random: &mut Random, subject: &Subject) -> (usize, usize) {
-    let chosen = random.below(subject.job.runs.len());
-    let certificates = subject.job.certificates.len() * CERTIFICATE_LENGTH;
-    let runs_before: usize = subject.job.runs[..chosen].iter().map(run_length).sum();
+    let Job {
+        version,
+        certificates,
+        runs,
+    } = &subject.job;
+    let chosen = random.below(runs.len());
+    let certificates = certificates.len() * version.certificate_length();
+    let runs_before = runs[..chosen].iter();
+    let runs_before: usize = runs_before.map(|run| run_length(*version, run)).sum();
     (chosen, HEADER_LENGTH + certificates + runs_before)
 }
 
-fn run_length(run: &Run) -> usize {
-    RUN_LENGTH
+fn run_length(version: Version, run: &Run) -> usize {
+    version.run_length()
         + run.points.len() * POINT_LENGTH
         + run.segments.len() * SEGMENT_LENGTH
         + run.weighings.len() * WEIGHING_LENGTH
 }
 
+/// Fields behind a run's letters, by their places in version 1.
+const SHAPE: usize = 43;
+const POINTS: usize = 60;
+const SEGMENTS: usize = 61;
+const WEIGHINGS: usize = 62;
+const SPARE: usize = 63;
+
+/// Where such a field lies in a run's part.
+fn behind_letters(version: Version, place: usize) -> usize {
+    version.run_length() - RUN_LENGTH + place
+}
+
 fn count_outside(random: &mut Random, subject: &mut Subject) -> Expected {
     let (_, start) = any_run(random, subject);
+    let place = |count| start + behind_letters(subject.job.version, count);
     let (at, value) = random.pick(&[
         (5, 65),
         (6, 1),
         (7, 0),
         (7, 17),
         (8, 255),
-        (start + 60, 0),
-        (start + 60, 65),
-        (start + 61, 0),
-        (start + 61, 17),
-        (start + 62, 9),
-        (start + 62, 255),
+        (place(POINTS), 0),
+        (place(POINTS), 65),
+        (place(SEGMENTS), 0),
+        (place(SEGMENTS), 17),
+        (place(WEIGHINGS), 9),
+        (place(WEIGHINGS), 255),
     ]);
     set(subject, at, value);
     Expected::Refused(4)
@@ -106,12 +137,13 @@ fn count_outside(random: &mut Random, subject: &mut Subject) -> Expected {
 /// What follows is then read as something else, and any trouble may come first.
 fn another_count(random: &mut Random, subject: &mut Subject) -> Expected {
     let (_, start) = any_run(random, subject);
+    let place = |count| start + behind_letters(subject.job.version, count);
     let (at, most) = random.pick(&[
         (5, 64),
         (7, 16),
-        (start + 60, 64),
-        (start + 61, 16),
-        (start + 62, 8),
+        (place(POINTS), 64),
+        (place(SEGMENTS), 16),
+        (place(WEIGHINGS), 8),
     ]);
     set(subject, at, random.near_ends(0, most) as u8);
     Expected::Either
@@ -171,22 +203,37 @@ fn dependent_field_outside(random: &mut Random, subject: &mut Subject) -> Expect
     FIELD
 }
 
-fn instrument_outside(random: &mut Random, subject: &mut Subject) -> Expected {
+/// A random certificate's instrument, or one that a random run names.
+fn any_instrument<'a>(random: &mut Random, subject: &'a mut Subject) -> &'a mut Instrument {
     let (chosen, _) = any_run(random, subject);
-    let Job { certificates, runs } = &mut subject.job;
+    let Job {
+        certificates, runs, ..
+    } = &mut subject.job;
     let certificate = random.below(certificates.len().max(1));
     let run = &mut runs[chosen];
-    let instrument = match (random.below(4), certificates.get_mut(certificate)) {
+    match (random.below(4), certificates.get_mut(certificate)) {
         (0, Some(certificate)) => &mut certificate.instrument,
         (1, _) => &mut run.meter,
         (2, _) => &mut run.pitot,
         _ => &mut run.nozzle,
-    };
+    }
+}
+
+fn instrument_outside(random: &mut Random, subject: &mut Subject) -> Expected {
+    let instrument = any_instrument(random, subject);
     if random.percent(25) {
         instrument.serial = 0;
     } else {
         instrument.maker[random.below(3)] = random.pick(b"@[`az\x00\xff");
     }
+    FIELD
+}
+
+fn letter_outside(random: &mut Random, subject: &mut Subject) -> Expected {
+    if !subject.job.version.has_letters() {
+        return instrument_outside(random, subject);
+    }
+    any_instrument(random, subject).letter = random.pick(b"@[`az\x01\xff");
     FIELD
 }
 
@@ -209,20 +256,18 @@ fn certificate_value_outside(random: &mut Random, subject: &mut Subject) -> Expe
 /// Kinds, shapes, and the bytes that only hold 0.
 fn chosen_byte_outside(random: &mut Random, subject: &mut Subject) -> Expected {
     let (chosen, start) = any_run(random, subject);
+    let version = subject.job.version;
     let run = &subject.job.runs[chosen];
-    let weighing = start + run_length(run) - WEIGHING_LENGTH;
-    let mut choices = vec![
-        (start + 43, 0),
-        (start + 43, 3),
-        (start + 63, 1),
-        (start + 63, 255),
-    ];
+    let weighing = start + run_length(version, run) - WEIGHING_LENGTH;
+    let shape = start + behind_letters(version, SHAPE);
+    let spare = start + behind_letters(version, SPARE);
+    let mut choices = vec![(shape, 0), (shape, 3), (spare, 1), (spare, 255)];
     if !run.weighings.is_empty() {
         choices.extend([(weighing, 0), (weighing, 3), (weighing + 1, 1)]);
     }
     if !subject.job.certificates.is_empty() {
         let certificate = random.below(subject.job.certificates.len());
-        let start = HEADER_LENGTH + certificate * CERTIFICATE_LENGTH;
+        let start = HEADER_LENGTH + certificate * version.certificate_length();
         choices.extend([(start, 0), (start, 4), (start, 255)]);
     }
     let (at, value) = random.pick(&choices);

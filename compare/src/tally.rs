@@ -3,13 +3,14 @@
 //! little is no proof.
 
 mod edges;
+mod letters;
 
 use std::fmt;
 
-use independent::job::Run;
+use independent::job::{Job, Run};
 
 use crate::call::{Outcome, FINDING_LENGTH, LINES_LENGTH, LINE_COUNT, LINE_LENGTH};
-use edges::{Reduced, EDGES};
+use edges::{Reduced, Refused, Times, EDGES};
 
 /// The rules that there are: none has the number 13.
 const RULES: [usize; 19] = [
@@ -58,14 +59,35 @@ impl Tally {
         self.texts += u64::from(outcome.refusal() == 0);
     }
 
+    /// Counts the edges that a refused job comes to, and not its refusal once more.
+    pub fn count_refused(&mut self, job: &[u8], outcome: &Outcome) {
+        let refused = Refused {
+            job,
+            number: outcome.refusal(),
+            place: outcome.value() as usize,
+        };
+        self.count_edges(|times| match times {
+            Times::Run(_) => 0,
+            Times::Refusal(times) => times(&refused),
+        });
+    }
+
+    fn count_edges(&mut self, reached: impl Fn(&Times) -> usize) {
+        for (edge, count) in EDGES.iter().zip(&mut self.edges) {
+            *count += reached(&edge.times) as u64;
+        }
+    }
+
     /// Counts a successful reduce's verdict, findings, absent lines and edges too.
-    pub fn count_reduced(&mut self, run: &Run, outcome: &Outcome) {
+    pub fn count_reduced(&mut self, job: &Job, run: &Run, has_twin: bool, outcome: &Outcome) {
         self.count(outcome);
         if outcome.refusal() != 0 {
             return;
         }
         let reduced = Reduced {
+            job,
             run,
+            has_twin,
             accepted: outcome.accepted(),
             lines: lines(outcome),
             findings: findings(outcome),
@@ -81,9 +103,10 @@ impl Tally {
                 self.absences[number][usize::from(only)] += 1;
             }
         }
-        for (edge, count) in EDGES.iter().zip(&mut self.edges) {
-            *count += (edge.times)(&reduced) as u64;
-        }
+        self.count_edges(|times| match times {
+            Times::Run(times) => times(&reduced),
+            Times::Refusal(_) => 0,
+        });
     }
 
     pub fn add(&mut self, other: &Tally) {
@@ -120,10 +143,36 @@ impl Tally {
                 need(count, format!("line {line} absent only by rule {cause}"));
             }
         }
-        for (edge, &count) in EDGES.iter().zip(&self.edges) {
-            need(count, edge.name.into());
+        for (edge, count) in self.edges_of_runs() {
+            need(count, edge.into());
         }
         unreached
+    }
+
+    /// What jobs that are refused must reach and these did not, in words.
+    pub fn unreached_by_refusing(&self) -> Vec<String> {
+        let edges = self.edges_of_refusals().filter(|&(_, count)| count == 0);
+        let edges = edges.map(|(edge, _)| edge.into());
+        // 11 is for layouts.
+        let mut unreached = self.unreached_refusals(1..=10);
+        unreached.extend(edges);
+        unreached
+    }
+
+    fn edges_of_runs(&self) -> impl Iterator<Item = (&'static str, u64)> + '_ {
+        self.edges(|times| matches!(times, Times::Run(_)))
+    }
+
+    fn edges_of_refusals(&self) -> impl Iterator<Item = (&'static str, u64)> + '_ {
+        self.edges(|times| matches!(times, Times::Refusal(_)))
+    }
+
+    /// The edges that such come to, with how often they did.
+    fn edges(&self, such: fn(&Times) -> bool) -> impl Iterator<Item = (&'static str, u64)> + '_ {
+        let edges = EDGES.iter().zip(&self.edges);
+        edges
+            .filter(move |(edge, _)| such(&edge.times))
+            .map(|(edge, &count)| (edge.name, count))
     }
 
     /// The refusals of these numbers that were never given, in words.
@@ -132,6 +181,11 @@ impl Tally {
             .filter(|&number| self.refusals[number] == 0)
             .map(|number| format!("refusal {number}"))
             .collect()
+    }
+
+    /// What was reached by jobs that are refused, beside their numbers.
+    pub fn refused_text(&self) -> String {
+        edges_text(self.edges_of_refusals())
     }
 
     pub fn refusals_text(&self) -> String {
@@ -144,6 +198,14 @@ impl Tally {
             false => counted.join(", "),
         }
     }
+}
+
+/// A line for each, and how often it was reached.
+fn edges_text(edges: impl Iterator<Item = (&'static str, u64)>) -> String {
+    let lines: Vec<String> = edges
+        .map(|(edge, count)| format!("  {edge}: {count}"))
+        .collect();
+    lines.join("\n")
 }
 
 fn add_each(mine: &mut [u64], others: &[u64]) {
@@ -191,24 +253,20 @@ impl fmt::Display for Tally {
                 .collect();
             writeln!(f, "    line {line}: {}", counted.join(", "))?;
         }
-        let edges: Vec<String> = EDGES
-            .iter()
-            .zip(&self.edges)
-            .map(|(edge, count)| format!("  {}: {count}", edge.name))
-            .collect();
-        write!(f, "{}", edges.join("\n"))
+        write!(f, "{}", edges_text(self.edges_of_runs()))
     }
 }
 
 #[cfg(test)]
 mod tests {
-    use independent::job::Job;
+    use independent::job::{Job, NO_LETTER};
     use independent::samples;
     use leverbonnet::pipe::Call;
 
     use super::*;
     use crate::agreement::INDEPENDENT;
     use crate::call::{Fill, Trial};
+    use crate::versions::twin;
 
     #[test]
     fn a_comparison_without_a_text_has_not_reached_one() {
@@ -228,11 +286,11 @@ mod tests {
             let call = Call::Reduce {
                 run: run.number,
                 lines_len: LINES_LENGTH,
-                findings_len: FINDING_LENGTH,
+                findings_len: 2 * FINDING_LENGTH,
             };
             let fill = Fill::Pattern;
             let outcome = Trial { call, fill }.made(&INDEPENDENT, &job.bytes());
-            tally.count_reduced(run, &outcome);
+            tally.count_reduced(job, run, twin(job).is_some(), &outcome);
         }
         tally
     }
@@ -257,6 +315,8 @@ mod tests {
                 ("line 18 at 9000 and rule 15 kept", 1),
                 ("line 18 at 11000 and rule 16 kept", 1),
                 ("line 18 at 11000 and rule 16 broken", 1),
+                ("a run of version 1", 4),
+                ("a run of version 1 that is the same in version 2", 4),
             ]
         );
         let unreached = tally.unreached_by_reading();
@@ -279,7 +339,78 @@ mod tests {
                 ),
                 ("weighed 6 apart, the net negative: broken", 1),
                 ("accepted with a weighing over 5 apart", 2),
+                ("a run of version 1", 6),
+                ("a run of version 1 that is the same in version 2", 6),
             ]
         );
+    }
+
+    /// Three runs: before the meter was rebuilt, before its next certificate, after that.
+    #[test]
+    fn a_missing_certificate_is_told_from_one_with_another_letter() {
+        let job = samples::rebuilt_meter();
+        assert_eq!(
+            reached(&counted(&job)),
+            [
+                (
+                    "rule 1 broken, though a certificate with another letter stands",
+                    1
+                ),
+                ("a run of version 2", 3),
+            ]
+        );
+    }
+
+    /// The last run with the letter of before, and a certificate of either letter on the
+    /// day before it.
+    #[test]
+    fn certificates_are_told_apart_by_their_letters() {
+        let mut job = samples::rebuilt_meter();
+        job.runs.drain(..2);
+        job.runs[0].meter.letter = NO_LETTER;
+        let mut expected = vec![
+            (
+                "a nearer certificate passed over for its letter alone: the meter's before",
+                1,
+            ),
+            (
+                "rule 4 broken, though a certificate with another letter stands",
+                1,
+            ),
+            ("a run of version 2", 1),
+        ];
+        assert_eq!(reached(&counted(&job)), expected);
+
+        job.certificates[1].day = 9_011;
+        job.certificates[2].day = 9_011;
+        expected[0] = expected[1];
+        expected[1] = (
+            "two certificates that differ by the letter alone, one of them chosen",
+            1,
+        );
+        assert_eq!(reached(&counted(&job)), expected);
+    }
+
+    #[test]
+    fn a_bad_letter_is_told_from_other_bad_fields() {
+        let refused_at = |place: usize, value: u8| {
+            let mut job = samples::rebuilt_meter().bytes();
+            job[place] = value;
+            let (call, fill) = (Call::RunCount, Fill::Pattern);
+            let outcome = Trial { call, fill }.made(&INDEPENDENT, &job);
+            assert_eq!(outcome.answer, 5 << 32 | place as u64);
+            let mut tally = Tally::default();
+            tally.count_refused(&job, &outcome);
+            tally.refused_text()
+        };
+        let (certificate, run) = (9, 9 + 6 * 17);
+        for letter in [certificate + 8, run + 11, run + 19, run + 27] {
+            assert_eq!(refused_at(letter, b'a'), "  a bad letter refused: 1");
+        }
+        for (other, value) in [(certificate, 0), (certificate + 1, 0), (run + 66, 1)] {
+            assert_eq!(refused_at(other, value), "  a bad letter refused: 0");
+        }
+        let unreached = Tally::default().unreached_by_refusing();
+        assert!(unreached.contains(&"a bad letter refused".into()));
     }
 }

@@ -1,4 +1,7 @@
-//! Random jobs damaged in one way, each way in turn, or in several at once.
+//! Random jobs of a version, damaged in one way, each way in turn, or in several at
+//! once.
+
+use independent::job::Version;
 
 use crate::case::{Case, Expected, Subject};
 use crate::invent;
@@ -7,14 +10,14 @@ use crate::spoil::SPOILS;
 
 const SEED: u64 = 0x30_0000;
 
-pub fn cases(count: u64) -> impl Iterator<Item = Case> {
-    (0..count).map(damaged)
+pub fn cases(version: Version, count: u64) -> impl Iterator<Item = Case> {
+    (0..count).map(move |k| damaged(version, k))
 }
 
-fn damaged(k: u64) -> Case {
-    let mut random = Random::new(SEED + k);
+fn damaged(version: Version, k: u64) -> Case {
+    let mut random = Random::for_case(SEED, version, k);
     let mut subject = Subject {
-        job: invent::short_job(&mut random),
+        job: invent::short_job(&mut random, version),
         changes: vec![],
     };
     // Every third case shows which of several troubles is met first.
@@ -25,11 +28,8 @@ fn damaged(k: u64) -> Case {
             (damage.to_string(), spoil(&mut random, &mut subject))
         }
     };
-    Case {
-        name: format!("damaged job {k}: {damage}"),
-        subject,
-        expected,
-    }
+    let Subject { job, changes } = subject;
+    Case::changed(format!("damaged job {k}: {damage}"), job, changes, expected)
 }
 
 fn damaged_often(random: &mut Random, subject: &mut Subject) -> (String, Expected) {

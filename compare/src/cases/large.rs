@@ -1,36 +1,34 @@
 //! Files that no job comes near.
 
+use independent::job::{Job, Version};
 use independent::samples;
 
 use crate::case::{Case, Change, Expected};
+use crate::versions::{in_version, longest};
 
 /// Longer than a pipe holds, than a request over one, and far longer than a job.
 const LARGE: usize = 100_000;
 
-pub fn cases() -> [Case; 3] {
-    let zeros = |length| Change::Append(vec![0; length]);
-    let no_job = vec![Change::Cut { length: 0 }, zeros(LARGE)];
-    let after = |length: usize| vec![zeros(LARGE - length)];
-    let (worked, longest) = (samples::worked(), samples::longest());
-    let (worked_rest, longest_rest) = (after(worked.bytes().len()), after(longest.bytes().len()));
+/// No job at all, and jobs of that version with zeros behind them.
+pub fn cases(version: Version) -> [Case; 3] {
+    let worked = in_version(version, samples::worked());
     [
         Case::changed(
             "100,000 zeros".into(),
-            samples::worked(),
-            no_job,
+            worked.clone(),
+            vec![Change::Cut { length: 0 }, zeros(LARGE)],
             Expected::Refused(2),
         ),
-        Case::changed(
-            "the worked job in 100,000 bytes".into(),
-            worked,
-            worked_rest,
-            Expected::Refused(8),
-        ),
-        Case::changed(
-            "the longest job in 100,000 bytes".into(),
-            longest,
-            longest_rest,
-            Expected::Refused(8),
-        ),
+        in_large_file("the worked job in 100,000 bytes", worked),
+        in_large_file("the longest job in 100,000 bytes", longest(version)),
     ]
+}
+
+fn in_large_file(name: &str, job: Job) -> Case {
+    let rest = zeros(LARGE - job.bytes().len());
+    Case::changed(name.into(), job, vec![rest], Expected::Refused(8))
+}
+
+fn zeros(length: usize) -> Change {
+    Change::Append(vec![0; length])
 }

@@ -3,12 +3,13 @@
 
 use std::iter;
 
-use independent::job::{Job, Shape, WeighingKind};
+use independent::job::{Job, Shape, Version, WeighingKind};
 use independent::samples;
 use leverbonnet::pipe::Call;
 
 use crate::call::{FINDING_LENGTH, LINES_LENGTH};
 use crate::case::{Case, Expected};
+use crate::versions::in_version;
 
 const MOST_LINES: usize = LINES_LENGTH + 2;
 
@@ -24,9 +25,9 @@ pub struct Outputs {
     crossed: bool,
 }
 
-pub fn cases() -> Vec<Outputs> {
-    let outputs = |name: &str, job, run, findings, crossed| Outputs {
-        case: Case::of_job(name.into(), job, Expected::Read),
+pub fn cases(version: Version) -> Vec<Outputs> {
+    let outputs = |name: &str, sample, run, findings, crossed| Outputs {
+        case: Case::of_job(name.into(), in_version(version, sample), Expected::Read),
         run,
         findings,
         crossed,

@@ -1,53 +1,62 @@
-//! The worked job: itself, with the least gas, at the limits of the percent
-//! isokinetic and of a weighing, each of its truncations, and each change of one byte.
+//! The worked job in a version: itself, with the least gas, at the limits of the
+//! percent isokinetic and of a weighing, with a rebuilt meter, each of its truncations,
+//! and each change of one byte.
 
+use independent::job::{Job, Version};
 use independent::samples;
 
 use crate::case::{Case, Change, Expected};
+use crate::versions::{in_version, rebuilt_meter};
 
-pub fn whole() -> Case {
-    let name = "the worked job".into();
-    Case::of_job(name, samples::worked(), Expected::Read)
+fn worked(version: Version) -> Job {
+    in_version(version, samples::worked())
 }
 
-pub fn thinnest() -> Case {
-    let name = "the worked job with the least gas".into();
-    Case::of_job(name, samples::thinnest(), Expected::Read)
-}
-
-pub fn at_percent_limits() -> Case {
-    let name = "the worked job at the limits of the percent isokinetic".into();
-    Case::of_job(name, samples::percent_limits(), Expected::Read)
-}
-
-pub fn at_weighing_limits() -> Case {
-    let name = "the worked job at the limits of a weighing".into();
-    Case::of_job(name, samples::weighing_limits(), Expected::Read)
+/// Itself and what it becomes by other values.
+pub fn read(version: Version) -> [Case; 5] {
+    let read = |name: &str, job| Case::of_job(name.into(), job, Expected::Read);
+    let sample = |name, sample| read(name, in_version(version, sample));
+    [
+        read("the worked job", worked(version)),
+        sample("the worked job with the least gas", samples::thinnest()),
+        sample(
+            "the worked job at the limits of the percent isokinetic",
+            samples::percent_limits(),
+        ),
+        sample(
+            "the worked job at the limits of a weighing",
+            samples::weighing_limits(),
+        ),
+        read(
+            "the worked job with a rebuilt meter",
+            rebuilt_meter(version),
+        ),
+    ]
 }
 
 /// Every shorter file, the empty one included.
-pub fn truncations() -> impl Iterator<Item = Case> {
-    let length = samples::worked().bytes().len();
-    (0..length).map(|length| {
+pub fn truncations(version: Version) -> impl Iterator<Item = Case> {
+    let length = worked(version).bytes().len();
+    (0..length).map(move |length| {
         let name = format!("the worked job cut to {length} bytes");
         let changes = vec![Change::Cut { length }];
-        Case::changed(name, samples::worked(), changes, Expected::Refused(1))
+        Case::changed(name, worked(version), changes, Expected::Refused(1))
     })
 }
 
 /// Every byte given every other value, or telling ones.
-pub fn changes(every_value: bool) -> Box<dyn Iterator<Item = Case>> {
+pub fn changes(version: Version, every_value: bool) -> Box<dyn Iterator<Item = Case>> {
     match every_value {
-        true => Box::new(changes_to(|byte| {
+        true => Box::new(changes_to(version, |byte| {
             (0..=255).filter(|&value| value != byte).collect()
         })),
-        false => Box::new(telling_changes()),
+        false => Box::new(telling_changes(version)),
     }
 }
 
 /// Every byte given a few other values: where limits and signs are crossed.
-pub fn telling_changes() -> impl Iterator<Item = Case> {
-    changes_to(|byte| {
+pub fn telling_changes(version: Version) -> impl Iterator<Item = Case> {
+    changes_to(version, |byte| {
         let near = [byte.wrapping_add(1), byte.wrapping_sub(1)];
         let flipped = [byte ^ 1, byte ^ 0x80];
         let mut values = [&[0, 1, 255], &near[..], &flipped[..]].concat();
@@ -58,13 +67,13 @@ pub fn telling_changes() -> impl Iterator<Item = Case> {
     })
 }
 
-fn changes_to(values: impl Fn(u8) -> Vec<u8>) -> impl Iterator<Item = Case> {
-    let bytes = samples::worked().bytes().into_iter().enumerate();
+fn changes_to(version: Version, values: impl Fn(u8) -> Vec<u8>) -> impl Iterator<Item = Case> {
+    let bytes = worked(version).bytes().into_iter().enumerate();
     bytes.flat_map(move |(at, byte)| {
         values(byte).into_iter().map(move |value| {
             let name = format!("the worked job with byte {at} set to {value}");
             let changes = vec![Change::Set { at, value }];
-            Case::changed(name, samples::worked(), changes, Expected::Either)
+            Case::changed(name, worked(version), changes, Expected::Either)
         })
     })
 }

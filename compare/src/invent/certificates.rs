@@ -1,4 +1,5 @@
-//! Random certificates for a job's runs: fitting ones, some left out, and strays.
+//! Random certificates for a job's runs: fitting ones, some left out, rivals that only
+//! their letter keeps from being chosen, and strays.
 
 use independent::job::{Certificate, Instrument, Kind, Run};
 
@@ -15,6 +16,7 @@ pub(super) fn certificates(random: &mut Random, runs: &[Run], style: Style) -> V
         certify_meter(random, &mut list, run, style);
         certify(random, &mut list, Kind::Pitot, run.pitot, run.day, style);
         certify(random, &mut list, Kind::Nozzle, run.nozzle, run.day, style);
+        add_rivals(random, &mut list, run, style);
     }
     let extra = random.below(6);
     let wanted = if style.full {
@@ -89,15 +91,38 @@ fn certify(
     add_new(list, Certificate::new(kind, instrument, day, values));
 }
 
-/// One that a careless match would take: right in most of kind, maker, serial
-/// and day.
+/// Certificates of the run's meter, pitot and nozzle under other letters, often dated
+/// nearer than their own, or on the same day.
+fn add_rivals(random: &mut Random, list: &mut Vec<Certificate>, run: &Run, style: Style) {
+    for (kind, instrument) in [
+        (Kind::Meter, run.meter),
+        (Kind::Pitot, run.pitot),
+        (Kind::Nozzle, run.nozzle),
+    ] {
+        let letter = random.pick(style.letters);
+        let day = i64::from(run.day) + random.pick(&[-5, -1, 0, 0, 1, 1, 2]);
+        if letter == instrument.letter || !(0..=65_535).contains(&day) {
+            continue;
+        }
+        let rival = Instrument {
+            letter,
+            ..instrument
+        };
+        let values = values(random, kind, style);
+        add_new(list, Certificate::new(kind, rival, day as u16, values));
+    }
+}
+
+/// One that a careless match would take: right in most of kind, maker, serial,
+/// letter and day.
 fn stray(random: &mut Random, run: &Run, style: Style) -> Certificate {
     let kind = random.pick(&[Kind::Meter, Kind::Pitot, Kind::Nozzle]);
     let mut instrument = random.pick(&[run.meter, run.pitot, run.nozzle]);
-    match random.below(4) {
+    match random.below(5) {
         0 => instrument.maker[random.below(3)] = b'Q',
         1 => instrument.serial = random.within(1..=300) as u32,
         2 => instrument.serial ^= 1 << random.within(8..=31),
+        3 => instrument.letter = random.pick(style.letters),
         _ => {}
     }
     let day = match random.below(3) {

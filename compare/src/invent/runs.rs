@@ -19,9 +19,9 @@ pub(super) fn run(random: &mut Random, number: u16, style: Style) -> Run {
     let calm = samples::worked().runs.remove(0);
     let mut run = Run {
         number,
-        meter: instrument(random),
-        pitot: instrument(random),
-        nozzle: instrument(random),
+        meter: instrument(random, style),
+        pitot: instrument(random, style),
+        nozzle: instrument(random, style),
         ..calm
     };
     choose_stack(random, &mut run, style);
@@ -44,10 +44,11 @@ pub(super) fn run(random: &mut Random, number: u16, style: Style) -> Run {
 }
 
 /// Few makers and serials, so that instruments meet across kinds and runs.
-fn instrument(random: &mut Random) -> Instrument {
+fn instrument(random: &mut Random, style: Style) -> Instrument {
     Instrument {
         maker: random.pick(&[*b"ABC", *b"ABC", *b"ABD", *b"AZZ"]),
         serial: random.pick(&[1, 2, 10_442, u32::MAX]),
+        letter: random.pick(style.letters),
     }
 }
 

@@ -1,24 +1,45 @@
-//! The edges of the rules: what hardly any run comes to by chance, and some run of a
-//! comparison must.
+//! What some run or refusal of a comparison must come to: edges of the rules, which
+//! hardly any meets by chance, what letters are for, and both versions.
 
-use independent::job::Run;
+use independent::job::{Job, Run, Version};
 
 /// A run that was read, and what was written of it.
 pub struct Reduced<'a> {
+    pub job: &'a Job,
     pub run: &'a Run,
+    /// Whether the job has a twin in the other version, which gave the same.
+    pub has_twin: bool,
     pub accepted: bool,
     pub lines: Vec<Option<i64>>,
     /// Rule and place of each finding.
     pub findings: Vec<(u8, u16)>,
 }
 
+/// A file that was refused.
+pub struct Refused<'a> {
+    pub job: &'a [u8],
+    pub number: u32,
+    pub place: usize,
+}
+
 pub struct Edge {
     pub name: &'static str,
-    /// How often a run comes to it.
-    pub times: fn(&Reduced) -> usize,
+    pub times: Times,
+}
+
+/// How often a run, or a refusal, comes to it.
+pub enum Times {
+    Run(fn(&Reduced) -> usize),
+    Refusal(fn(&Refused) -> usize),
 }
 
 const fn edge(name: &'static str, times: fn(&Reduced) -> usize) -> Edge {
+    let times = Times::Run(times);
+    Edge { name, times }
+}
+
+const fn refusal(name: &'static str, times: fn(&Refused) -> usize) -> Edge {
+    let times = Times::Refusal(times);
     Edge { name, times }
 }
 
@@ -31,7 +52,7 @@ const SLOW_ROOT: i64 = 10_000;
 const STEADY: i64 = 5;
 
 #[rustfmt::skip]
-pub const EDGES: [Edge; 15] = [
+pub const EDGES: [Edge; 29] = [
     edge("line 6 at its least, 1", |run| run.at(6, 1)),
     edge("a slow stack, line 13 from 1 to 10000", |run| run.slow_stack()),
     edge("line 18 at 8999 and rule 15 broken", |run| run.broken_at(15, 8_999)),
@@ -61,6 +82,20 @@ pub const EDGES: [Edge; 15] = [
     edge("accepted with a weighing over 5 apart", |run| {
         usize::from(run.accepted && run.steady(|difference, _| difference > STEADY) > 0)
     }),
+    edge("a nearer certificate passed over for its letter alone: the meter's before", |run| run.passed_over(1)),
+    edge("a nearer certificate passed over for its letter alone: the pitot's", |run| run.passed_over(2)),
+    edge("a nearer certificate passed over for its letter alone: the nozzle's", |run| run.passed_over(3)),
+    edge("a nearer certificate passed over for its letter alone: the meter's after", |run| run.passed_over(4)),
+    edge("rule 1 broken, though a certificate with another letter stands", |run| run.broken_for_letter(1)),
+    edge("rule 2 broken, though a certificate with another letter stands", |run| run.broken_for_letter(2)),
+    edge("rule 3 broken, though a certificate with another letter stands", |run| run.broken_for_letter(3)),
+    edge("rule 4 broken, though a certificate with another letter stands", |run| run.broken_for_letter(4)),
+    edge("two certificates that differ by the letter alone, one of them chosen", |run| run.told_apart_by_letter()),
+    edge("a run of version 1", |run| run.of_version(Version::One)),
+    edge("a run of version 2", |run| run.of_version(Version::Two)),
+    edge("a run of version 1 that is the same in version 2", |run| run.same_in_twin(Version::One)),
+    edge("a run of version 2 that is the same in version 1", |run| run.same_in_twin(Version::Two)),
+    refusal("a bad letter refused", |refused| refused.for_letter()),
 ];
 
 impl Reduced<'_> {
@@ -104,5 +139,13 @@ impl Reduced<'_> {
             .filter(|(_, weighing)| such(weighing.difference(), weighing.net()))
             .filter(|&(place, _)| self.findings.contains(&(17, place)) == broken)
             .count()
+    }
+
+    fn of_version(&self, version: Version) -> usize {
+        usize::from(self.job.version == version)
+    }
+
+    fn same_in_twin(&self, version: Version) -> usize {
+        usize::from(self.has_twin) * self.of_version(version)
     }
 }
