@@ -1,7 +1,7 @@
-//! Makes a failing case small: first fewer changes, then fewer records, for as
-//! long as the two sides still part on it.
+//! Makes a failing case small: first fewer changes, then fewer records, then fewer
+//! letters, for as long as the two sides still part on it.
 
-use independent::job::{Run, Segment};
+use independent::job::{Run, Segment, Version, NO_LETTER};
 
 use crate::case::Subject;
 
@@ -9,7 +9,10 @@ use crate::case::Subject;
 pub type Parts<'a> = &'a dyn Fn(&[u8]) -> bool;
 
 pub fn smallest(mut subject: Subject, parts: Parts) -> Subject {
-    while fewer_changes(&mut subject, parts) || fewer_records(&mut subject, parts) {}
+    while fewer_changes(&mut subject, parts)
+        || fewer_records(&mut subject, parts)
+        || fewer_letters(&mut subject, parts)
+    {}
     subject
 }
 
@@ -68,6 +71,25 @@ fn fewer_in_run(subject: &mut Subject, r: usize, parts: Parts) -> bool {
     any
 }
 
+/// Version 1, which has none, or else one letter less.
+fn fewer_letters(subject: &mut Subject, parts: Parts) -> bool {
+    if !subject.job.version.has_letters() {
+        return false;
+    }
+    if attempt(subject, parts, |s| s.job.version = Version::One) {
+        return true;
+    }
+    let letters = subject.job.instruments_mut().map(|one| one.letter);
+    let letters: Vec<u8> = letters.collect();
+    let mut lettered = (0..letters.len()).filter(|&k| letters[k] != NO_LETTER);
+    lettered.any(|k| {
+        attempt(subject, parts, |s| {
+            let instrument = s.job.instruments_mut().nth(k);
+            instrument.expect("it has a letter").letter = NO_LETTER;
+        })
+    })
+}
+
 /// Takes a point out and its seconds off the last segments, so that the totals
 /// that agreed still do.
 fn remove_point(run: &mut Run, p: usize) {
@@ -120,5 +142,27 @@ mod tests {
         let run = &small.job.runs[0];
         let counts = (run.points.len(), run.segments.len(), run.weighings.len());
         assert_eq!(counts, (1, 1, 0));
+    }
+
+    #[test]
+    fn keeps_only_the_letters_that_the_sides_part_on() {
+        let lettered_meter = |bytes: &[u8]| {
+            let job = read(bytes);
+            job.map_or(false, |job| {
+                job.runs.iter().any(|run| run.meter.letter == b'A')
+            })
+        };
+        let subject = Subject {
+            job: samples::longest_version_2(),
+            changes: vec![],
+        };
+        let small = smallest(subject.clone(), &lettered_meter).job;
+        assert_eq!((small.certificates.len(), small.runs.len()), (0, 1));
+        let run = &small.runs[0];
+        let letters = [run.meter, run.pitot, run.nozzle].map(|one| one.letter);
+        assert_eq!(letters, [b'A', NO_LETTER, NO_LETTER]);
+
+        let any_job = |bytes: &[u8]| read(bytes).is_ok();
+        assert_eq!(smallest(subject, &any_job).job.version, Version::One);
     }
 }
