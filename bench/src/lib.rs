@@ -26,7 +26,7 @@ pub fn print_table() {
 
 fn subjects() -> Vec<Subject> {
     let longest = samples::longest();
-    // Those of the longest job of version 2 have the same numbers.
+    // The runs of the longest job of version 2 have the same numbers.
     let numbers: Vec<u16> = longest.runs.iter().map(|run| run.number).collect();
     let (first, last) = (numbers[0], numbers[numbers.len() - 1]);
     let longest = longest.bytes();
