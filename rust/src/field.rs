@@ -10,12 +10,14 @@ mod part;
 mod ranges;
 mod rows;
 mod seconds;
+mod version;
 mod walk;
 
 pub use rows::{
     Field, Instrument, Record, Type, CERTIFICATE, HEADER, INSTRUMENTS, POINT, RUN, SEGMENT,
     WEIGHING,
 };
+pub use version::Version;
 
 use crate::refusal::Refusal;
 use part::{Part, Which};
@@ -52,7 +54,7 @@ fn incomplete(part: &Part) -> Option<String> {
     match part.which {
         _ if part.is_complete() => None,
         Which::Run(_) => {
-            let length = part.record().length;
+            let length = part.length();
             Some(format!(
                 "the file ends before {name}'s {length} bytes are complete"
             ))

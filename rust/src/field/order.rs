@@ -2,9 +2,7 @@
 
 use super::numbers::with_commas;
 use super::part::{Part, Which};
-
-/// What two certificates may not share.
-const IDENTITY: [&str; 4] = ["kind", "maker", "serial", "day"];
+use super::version::Version;
 
 /// The clause for a part and those before it.
 pub fn repeated(before: &[Part], part: &Part) -> Option<String> {
@@ -16,19 +14,22 @@ pub fn repeated(before: &[Part], part: &Part) -> Option<String> {
 }
 
 fn same_certificate(before: &[Part], part: &Part) -> Option<String> {
-    let own = identity(part)?;
-    let mut earlier = before.iter().filter_map(identity);
+    let own = before_the_values(part)?;
+    let mut earlier = before.iter().filter_map(before_the_values);
     earlier.find(|earlier| *earlier == own)?;
     let name = part.which.name();
-    Some(format!(
-        "{name} repeats kind, maker, serial and day of an earlier one"
-    ))
+    let repeated = match part.version {
+        Version::One => "kind, maker, serial and day",
+        Version::Two => "kind, maker, serial, letter and day",
+    };
+    Some(format!("{name} repeats {repeated} of an earlier one"))
 }
 
+/// What two certificates may not share, all that stands before their values:
 /// `None` for what is no complete certificate.
-fn identity<'a>(part: &Part<'a>) -> Option<Vec<&'a [u8]>> {
-    let bytes_of = |name: &&str| part.bytes_of(part.record().field(name)?);
-    IDENTITY.iter().map(bytes_of).collect()
+fn before_the_values<'a>(part: &Part<'a>) -> Option<&'a [u8]> {
+    let values = part.place_of(part.record().field("first value")?)?;
+    part.is_complete().then(|| &part.bytes[..values])
 }
 
 fn number_not_above(before: &[Part], part: &Part) -> Option<String> {

@@ -2,6 +2,7 @@
 
 use super::numbers::ordinal;
 use super::rows::{Field, Record, CERTIFICATE, HEADER, POINT, RUN, SEGMENT, WEIGHING};
+use super::version::Version;
 
 /// Which record of a job. Certificates and runs are counted from 1 in the job;
 /// points, segments and weighings in their run, and the run's count comes first.
@@ -15,11 +16,12 @@ pub enum Which {
     Weighing(usize, usize),
 }
 
-/// A record, where it starts, and its bytes: fewer than it has where the job
-/// ends within it.
+/// A record, the job's version, where it starts, and its bytes: fewer than it has
+/// where the job ends within it.
 #[derive(Clone, Copy, Debug)]
 pub struct Part<'a> {
     pub which: Which,
+    pub version: Version,
     pub start: usize,
     pub bytes: &'a [u8],
 }
@@ -54,13 +56,29 @@ impl<'a> Part<'a> {
         self.which.record()
     }
 
+    /// How many bytes it has when it is complete.
+    pub fn length(&self) -> usize {
+        self.record().length_in(self.version)
+    }
+
     pub fn is_complete(&self) -> bool {
-        self.bytes.len() == self.record().length
+        self.bytes.len() == self.length()
+    }
+
+    /// The field at that place of it.
+    pub fn field_at(&self, at: usize) -> Option<&'static Field> {
+        self.record().field_at(self.version, at)
+    }
+
+    /// Where one of its fields stands in it.
+    pub fn place_of(&self, field: &Field) -> Option<usize> {
+        self.record().place_in(self.version, field)
     }
 
     /// The bytes of one of its fields, if it is complete.
     pub fn bytes_of(&self, field: &Field) -> Option<&'a [u8]> {
-        let bytes = self.bytes.get(field.at..field.at + field.holds.length())?;
+        let at = self.place_of(field)?;
+        let bytes = self.bytes.get(at..at + field.holds.length())?;
         self.is_complete().then_some(bytes)
     }
 

@@ -4,19 +4,19 @@ use std::ops::RangeInclusive;
 
 use super::numbers::{with_commas, without_commas};
 use super::part::{Part, Which};
-use super::rows::{Field, Instrument, INSTRUMENTS};
+use super::rows::{Field, Instrument, Type, INSTRUMENTS};
 
 /// The clause for the field at that place of the part.
 pub fn out_of_range(part: &Part, at: usize, refusal: u32) -> Option<String> {
-    let row = part.record().field_at(at)?;
+    let row = part.field_at(at)?;
+    let bytes = part.bytes_of(row)?;
     let (field, subject) = if row.is_by_the_kind() {
         let instrument = instrument(part)?;
-        let value = instrument.values.iter().find(|value| value.at == at)?;
+        let value = instrument.values.iter().find(|value| value.at == row.at)?;
         (value, subject_by_the_kind(value, part.which, instrument))
     } else {
         (row, subject(row, part.which))
     };
-    let bytes = part.bytes_of(field)?;
     if field.refusal() != refusal || is_in_range(field, bytes) {
         return None;
     }
@@ -49,8 +49,8 @@ fn predicate(field: &Field, bytes: &[u8]) -> String {
         "seconds" => ("are", "their"),
         _ => ("is", "its"),
     };
-    let not = match field.holds.number(bytes) {
-        Some(number) => format!("{} and not", with_commas(number)),
+    let not = match contents(field, bytes) {
+        Some(contents) => format!("{contents} and not"),
         None => "not".into(),
     };
     let range = field.range;
@@ -58,6 +58,17 @@ fn predicate(field: &Field, bytes: &[u8]) -> String {
         format!("{is} {not} in {its} range, {range}{}", in_unit(field))
     } else {
         format!("{is} {not} {range}")
+    }
+}
+
+/// What stands in the field: a number, and where a letter belongs also the
+/// character that it stands for, `97, the character a,`.
+fn contents(field: &Field, bytes: &[u8]) -> Option<String> {
+    match (field.holds, bytes) {
+        (Type::Letter, &[byte]) if byte.is_ascii_graphic() => {
+            Some(format!("{byte}, the character {},", char::from(byte)))
+        }
+        _ => field.holds.number(bytes).map(with_commas),
     }
 }
 
@@ -82,6 +93,7 @@ fn is_in_range(field: &Field, bytes: &[u8]) -> bool {
     match (field.range, field.holds.number(bytes)) {
         ("", _) => true,
         ("A to Z each", _) => bytes.iter().all(u8::is_ascii_uppercase),
+        ("0 for none or A to Z", _) => matches!(bytes, [0 | b'A'..=b'Z']),
         (letters, None) => bytes == letters.as_bytes(),
         (range, Some(number)) => numbers(range).map_or(false, |range| range.contains(&number)),
     }
@@ -92,6 +104,10 @@ fn numbers(range: &str) -> Option<RangeInclusive<i64>> {
     if let Some(least) = range.strip_suffix(" or more") {
         return Some(without_commas(least)?..=i64::MAX);
     }
-    let (least, greatest) = range.split_once(" to ").unwrap_or((range, range));
+    // Of two numbers the second follows the first: `1 or 2`.
+    let ends = [" to ", " or "]
+        .into_iter()
+        .find_map(|between| range.split_once(between));
+    let (least, greatest) = ends.unwrap_or((range, range));
     Some(without_commas(least)?..=without_commas(greatest)?)
 }

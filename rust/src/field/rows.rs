@@ -1,17 +1,19 @@
 //! The records of a job file and their fields: a row a field, as the tables of
 //! docs/RULES.md have it.
 
-use Type::{Letters, I16, U16, U32, U8};
+use Type::{Letter, Letters, I16, U16, U32, U8};
 
-/// A record of so many bytes, its fields in order of place.
+/// A record of so many bytes in version 1, its fields in order of place.
 #[derive(Clone, Copy, Debug, PartialEq, Eq)]
 pub struct Record {
     pub length: usize,
     pub fields: &'static [Field],
 }
 
-/// A field: its place in the record, its type, its name, its range and its unit
-/// in words. A field without a range may have any value that its type holds.
+/// A field: its place in the record in version 1, its type, its name, its range and
+/// its unit in words. A field without a range may have any value that its type
+/// holds. A letter, which only version 2 has, is put in at its place, and moves
+/// the fields behind it by 1.
 #[derive(Clone, Copy, Debug, PartialEq, Eq)]
 pub struct Field {
     pub at: usize,
@@ -26,6 +28,8 @@ pub struct Field {
 pub enum Type {
     /// Three of them.
     Letters,
+    /// One, or 0 for none.
+    Letter,
     U8,
     U16,
     U32,
@@ -45,7 +49,7 @@ pub const HEADER: Record = Record {
     length: 9,
     fields: &[
         row(0, Letters, "mark",                   "SRJ",     ""),
-        row(3, U16,     "version",                "1",       ""),
+        row(3, U16,     "version",                "1 or 2",  ""),
         row(5, U16,     "number of certificates", "0 to 64", ""),
         row(7, U16,     "number of runs",         "1 to 16", ""),
     ],
@@ -55,13 +59,14 @@ pub const HEADER: Record = Record {
 pub const CERTIFICATE: Record = Record {
     length: 16,
     fields: &[
-        row( 0, U8,      "kind",         "1 to 3",      ""),
-        row( 1, Letters, "maker",        "A to Z each", ""),
-        row( 4, U32,     "serial",       "1 or more",   ""),
-        row( 8, U16,     "day",          "",            ""),
-        row(10, U16,     "first value",  BY_THE_KIND,   ""),
-        row(12, U16,     "second value", BY_THE_KIND,   ""),
-        row(14, U16,     "third value",  BY_THE_KIND,   ""),
+        row( 0, U8,      "kind",         "1 to 3",               ""),
+        row( 1, Letters, "maker",        "A to Z each",          ""),
+        row( 4, U32,     "serial",       "1 or more",            ""),
+        row( 8, Letter,  "letter",       "0 for none or A to Z", ""),
+        row( 8, U16,     "day",          "",                     ""),
+        row(10, U16,     "first value",  BY_THE_KIND,            ""),
+        row(12, U16,     "second value", BY_THE_KIND,            ""),
+        row(14, U16,     "third value",  BY_THE_KIND,            ""),
     ],
 };
 
@@ -106,10 +111,13 @@ pub const RUN: Record = Record {
         row( 2, U16,     "day",                                       "",                               ""),
         row( 4, Letters, "meter's maker",                             "A to Z each",                    ""),
         row( 7, U32,     "meter's serial",                            "1 or more",                      ""),
+        row(11, Letter,  "meter's letter",                            "0 for none or A to Z",           ""),
         row(11, Letters, "pitot tube's maker",                        "A to Z each",                    ""),
         row(14, U32,     "pitot tube's serial",                       "1 or more",                      ""),
+        row(18, Letter,  "pitot tube's letter",                       "0 for none or A to Z",           ""),
         row(18, Letters, "nozzle's maker",                            "A to Z each",                    ""),
         row(21, U32,     "nozzle's serial",                           "1 or more",                      ""),
+        row(25, Letter,  "nozzle's letter",                           "0 for none or A to Z",           ""),
         row(25, U16,     "barometer Pb",                              "2,000 to 3,200",                 "0.01 in Hg"),
         row(27, I16,     "stack static pressure Pg",                  "-3,000 to 3,000",                "0.01 in water"),
         row(29, U16,     "carbon dioxide CO2",                        "0 to 1,000",                     "0.1 percent"),
@@ -184,11 +192,6 @@ const fn row(
 }
 
 impl Record {
-    /// The field at that place.
-    pub fn field_at(&self, at: usize) -> Option<&'static Field> {
-        self.fields.iter().find(|field| field.at == at)
-    }
-
     /// The field of that name.
     pub fn field(&self, name: &str) -> Option<&'static Field> {
         self.fields.iter().find(|field| field.name == name)
@@ -216,7 +219,7 @@ impl Type {
     /// How many bytes it takes.
     pub fn length(self) -> usize {
         match self {
-            Type::U8 => 1,
+            Type::U8 | Type::Letter => 1,
             Type::U16 | Type::I16 => 2,
             Type::Letters => 3,
             Type::U32 => 4,
@@ -227,6 +230,7 @@ impl Type {
     pub fn name(self) -> &'static str {
         match self {
             Type::Letters => "3 letters",
+            Type::Letter => "1 letter",
             Type::U8 => "u8",
             Type::U16 => "u16",
             Type::U32 => "u32",
@@ -234,10 +238,10 @@ impl Type {
         }
     }
 
-    /// The number in that many bytes; letters are none.
+    /// The number in that many bytes; three letters are none.
     pub fn number(self, bytes: &[u8]) -> Option<i64> {
         match (self, bytes) {
-            (Type::U8, &[a]) => Some(a.into()),
+            (Type::U8 | Type::Letter, &[a]) => Some(a.into()),
             (Type::U16, &[a, b]) => Some(u16::from_le_bytes([a, b]).into()),
             (Type::I16, &[a, b]) => Some(i16::from_le_bytes([a, b]).into()),
             (Type::U32, &[a, b, c, d]) => Some(u32::from_le_bytes([a, b, c, d]).into()),

@@ -1,6 +1,7 @@
-//! Where each record of a job stands, by the job's own counts.
+//! Where each record of a job stands, by the job's own version and counts.
 
 use super::part::{Part, Which};
+use super::version::Version;
 
 /// The records in file order, the last of them incomplete if the job ends within
 /// one. Every record has bytes, so there are no more of them than the job has
@@ -8,6 +9,7 @@ use super::part::{Part, Which};
 pub fn parts(job: &[u8]) -> Vec<Part<'_>> {
     let mut walk = Walk {
         job,
+        version: Version::One,
         parts: Vec::new(),
     };
     // Where the job ends too early, the walk has what there is.
@@ -17,6 +19,8 @@ pub fn parts(job: &[u8]) -> Vec<Part<'_>> {
 
 struct Walk<'a> {
     job: &'a [u8],
+    /// The job's own, once its header is read.
+    version: Version,
     parts: Vec<Part<'a>>,
 }
 
@@ -26,6 +30,7 @@ struct Ended;
 impl<'a> Walk<'a> {
     fn job(&mut self) -> Result<(), Ended> {
         let header = self.next(Which::Header)?;
+        self.version = Version::numbered(header.number("version"));
         for index in 1..=count(&header, "number of certificates") {
             self.next(Which::Certificate(index))?;
         }
@@ -55,9 +60,10 @@ impl<'a> Walk<'a> {
             .last()
             .map_or(0, |last| last.start + last.bytes.len());
         let left = &self.job[start..];
-        let length = which.record().length.min(left.len());
+        let length = which.record().length_in(self.version).min(left.len());
         let part = Part {
             which,
+            version: self.version,
             start,
             bytes: &left[..length],
         };
