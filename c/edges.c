@@ -1,7 +1,7 @@
 /*
- * Tries the calls and the words at their edges: layouts, NULL with length 0, numbers
- * that there are not, texts that are cut off. The job on standard input is
- * examples/several-runs.job, whose run 1 has no finding.
+ * Tries the calls and the words at their edges: layouts, NULL with length 0, versions
+ * and numbers that there are not, texts that are cut off. The job on standard input
+ * is examples/several-runs.job, whose run 1 has no finding.
  *
  * Status 0: all is as it must be; 1: something is not, which is told.
  */
@@ -69,6 +69,30 @@ static void no_job(void)
     MUST(leverbonnet_sheet_text(NULL, 0, NULL, 0) == REFUSED(1, 0));
 }
 
+/* A header of version 1 or 2 is good, and its run is missing; any other version is refused for itself. */
+static void versions(void)
+{
+    uint8_t header[9] = {'S', 'R', 'J', 0, 0, 0, 0, 1, 0};
+    unsigned version;
+    for (version = 0; version <= 65535; version++) {
+        header[3] = (uint8_t)(version % 256);
+        header[4] = (uint8_t)(version / 256);
+        MUST(leverbonnet_run_count(header, sizeof header) ==
+             (version == 1 || version == 2 ? REFUSED(1, sizeof header) : REFUSED(3, 3)));
+    }
+}
+
+/* A run's own part has 64 bytes, in version 2 67. Once they are all there the run's number, which is 0, is judged. */
+static void runs_cut_short(void)
+{
+    uint8_t start[9 + 67] = {'S', 'R', 'J', 1, 0, 0, 0, 1, 0};
+    MUST(leverbonnet_run_count(start, 9 + 63) == REFUSED(1, 9 + 63));
+    MUST(leverbonnet_run_count(start, 9 + 64) == REFUSED(5, 9));
+    start[3] = 2;
+    MUST(leverbonnet_run_count(start, 9 + 66) == REFUSED(1, 9 + 66));
+    MUST(leverbonnet_run_count(start, 9 + 67) == REFUSED(5, 9));
+}
+
 static void no_output(void)
 {
     uint8_t lines[LEVERBONNET_LINES_BYTES], findings[LEVERBONNET_FINDINGS_BYTES_MOST];
@@ -121,6 +145,9 @@ static void finding_must_read(unsigned rule, int fault, unsigned place, const ch
 
 static void findings_in_words(void)
 {
+    finding_must_read(1, 1, 0,
+                      "Fault 1: the meter has no certificate of the run's day or earlier with the same maker, serial and "
+                      "letter.");
     finding_must_read(11, 0, 1, "Note 11, segment 1: the leak rate is above the allowance.");
     finding_must_read(17, 1, 8,
                       "Fault 17, weighing 8: the two final weights differ by more than 0.5 mg and more than 1 percent of the "
@@ -139,6 +166,7 @@ static void refusal_must_read(uint64_t answer, const char *expected)
 
 static void refusals_in_words(void)
 {
+    refusal_must_read(REFUSED(3, 3), "refusal 3 at byte 3: the version is neither 1 nor 2");
     refusal_must_read(REFUSED(5, 167), "refusal 5 at byte 167: a field is out of its range");
     refusal_must_read(REFUSED(9, 0), "refusal 9: a lent output is too short");
     refusal_must_read(REFUSED(99, 0), "refusal 99: no refusal has that number");
@@ -184,6 +212,8 @@ int main(void)
     round_layouts();
     rectangular_layouts();
     no_job();
+    versions();
+    runs_cut_short();
     no_output();
     lines_in_words();
     findings_in_words();

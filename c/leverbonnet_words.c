@@ -46,10 +46,10 @@ static const struct {
     const char *clause;
     const char *place;
 } rule_texts[] = {
-    {1, "the meter has no certificate of the run's day or earlier", ""},
-    {2, "the pitot tube has no certificate of the run's day or earlier", ""},
-    {3, "the nozzle has no certificate of the run's day or earlier", ""},
-    {4, "the meter has no certificate later than the run's day", ""},
+    {1, "the meter has no certificate of the run's day or earlier with the same maker, serial and letter", ""},
+    {2, "the pitot tube has no certificate of the run's day or earlier with the same maker, serial and letter", ""},
+    {3, "the nozzle has no certificate of the run's day or earlier with the same maker, serial and letter", ""},
+    {4, "the meter has no certificate later than the run's day with the same maker, serial and letter", ""},
     {5, "the meter's factor moved by more than 5 percent, and Y is the lower of the two", ""},
     {6, "the nozzle's highest and lowest diameters differ by more than 0.004 in", ""},
     {7, "the stack's diameter is below 12 in", ""},
@@ -74,7 +74,7 @@ static const struct {
 } refusal_texts[] = {
     {1, "the file ends before its header or a record is complete"},
     {2, "the mark is not SRJ"},
-    {3, "the version is not 1"},
+    {3, "the version is neither 1 nor 2"},
     {4, "a count is out of its range"},
     {5, "a field is out of its range"},
     {6, "a certificate repeats an earlier one, or a run's number is not above that of the run before"},

@@ -4,6 +4,11 @@
  * What they read and write is described byte by byte in docs/RULES.md. What they
  * write can be taken apart and said in words with leverbonnet_words.h.
  *
+ * A job is of version 1 or of version 2, and every call reads both. Version 2 has
+ * a letter behind each serial, for meters that were rebuilt: kind, maker, serial
+ * and letter together say whose a certificate is. In version 1 every letter is
+ * none.
+ *
  * Every call answers one uint64_t:
  *
  *     high 32 bits   0 for success, else the number of the refusal
@@ -24,12 +29,12 @@
  *      1  the job ends before its header or a record
  *         is complete                                    place: job_len
  *      2  the mark is not SRJ                            place: 0
- *      3  the version is not 1                           place: 3
+ *      3  the version is neither 1 nor 2                 place: 3
  *      4  a count is out of range                        place: that count
  *      5  another field is out of range                  place: its first byte
- *      6  a certificate repeats an earlier one, or a
- *         run's number is not above that of the run
- *         before                                         place: the record
+ *      6  a certificate repeats kind, maker, serial,
+ *         letter and day of an earlier one, or a run's
+ *         number is not above that of the run before     place: the record
  *      7  the points last over 36,000 seconds, or points
  *         and segments do not last the same time         place: the run
  *      8  bytes are left over behind the last run        place: first of them
@@ -67,8 +72,9 @@ extern "C" {
 /* Enough bytes for the text of any job: it is proved that none has more. */
 #define LEVERBONNET_TEXT_BYTES_MOST 27088
 
-/* The longest job. Of a longer file nothing past the next byte changes an answer. */
-#define LEVERBONNET_JOB_BYTES_MOST 17161
+/* The longest job, which is of version 2. Of a longer file nothing past the next
+ * byte changes an answer. */
+#define LEVERBONNET_JOB_BYTES_MOST 17273
 
 /* Added to the number of findings when the run is accepted. */
 #define LEVERBONNET_ACCEPTED 65536

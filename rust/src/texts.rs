@@ -76,10 +76,10 @@ pub const LINES: &[LineText] = &[
 
 #[rustfmt::skip]
 pub const RULES: &[RuleText] = &[
-    a_rule( 1, "", "the meter has no certificate of the run's day or earlier"),
-    a_rule( 2, "", "the pitot tube has no certificate of the run's day or earlier"),
-    a_rule( 3, "", "the nozzle has no certificate of the run's day or earlier"),
-    a_rule( 4, "", "the meter has no certificate later than the run's day"),
+    a_rule( 1, "", "the meter has no certificate of the run's day or earlier with the same maker, serial and letter"),
+    a_rule( 2, "", "the pitot tube has no certificate of the run's day or earlier with the same maker, serial and letter"),
+    a_rule( 3, "", "the nozzle has no certificate of the run's day or earlier with the same maker, serial and letter"),
+    a_rule( 4, "", "the meter has no certificate later than the run's day with the same maker, serial and letter"),
     a_rule( 5, "", "the meter's factor moved by more than 5 percent, and Y is the lower of the two"),
     a_rule( 6, "", "the nozzle's highest and lowest diameters differ by more than 0.004 in"),
     a_rule( 7, "", "the stack's diameter is below 12 in"),
@@ -101,7 +101,7 @@ pub const RULES: &[RuleText] = &[
 pub const REFUSALS: &[RefusalText] = &[
     a_refusal( 1, "the file ends before its header or a record is complete"),
     a_refusal( 2, "the mark is not SRJ"),
-    a_refusal( 3, "the version is not 1"),
+    a_refusal( 3, "the version is neither 1 nor 2"),
     a_refusal( 4, "a count is out of its range"),
     a_refusal( 5, "a field is out of its range"),
     a_refusal( 6, "a certificate repeats an earlier one, or a run's number is not above that of the run before"),

@@ -8,7 +8,7 @@ use std::os::unix::io::AsRawFd;
 
 use words::{standard, Source};
 
-/// As much as is read of a file. Nothing past the first 17,162 bytes of a job
+/// As much as is read of a file. Nothing past the first 17,274 bytes of a job
 /// changes an answer, so that an endless input has one too.
 const MOST: u64 = 65_536;
 

@@ -24,7 +24,7 @@ const ANSWER_LENGTH: usize = 8;
 /// a longer one that is lent gets the same answer and the same bytes.
 const MOST_OUTPUT: [usize; 2] = [65_535, 4_096];
 
-/// The longest job that is sent. Nothing past the first 17,162 bytes of a job
+/// The longest job that is sent. Nothing past the first 17,274 bytes of a job
 /// changes an answer (theorem `prefix`), so a longer one is cut.
 const MOST_JOB: usize = 65_536;
 
