@@ -34,6 +34,8 @@ fn a_job_that_is_read_is_printed_in_words() {
         "several-runs",
         "percent-limits",
         "weighing-limits",
+        "rebuilt-meter",
+        "rebuilt-meter-no-letter",
     ] {
         let job = example(&format!("{name}.job"));
         let words = fs::read_to_string(example(&format!("{name}.words"))).expect("it is there");

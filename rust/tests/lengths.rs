@@ -3,7 +3,7 @@
 use leverbonnet::{FINDING_LENGTH, LINES_LENGTH, LINE_LENGTH, MOST_FINDINGS, MOST_TEXT};
 
 const HEADER: &str = include_str!("../../include/leverbonnet.h");
-const LONGEST: &[u8] = include_bytes!("../../examples/longest.job");
+const LONGEST: &[u8] = include_bytes!("../../examples/longest-version-2.job");
 
 fn assert_holds(text: &str, line: &str) {
     assert!(text.lines().any(|found| found == line), "{line}");

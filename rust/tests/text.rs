@@ -5,9 +5,12 @@ use std::path::{Path, PathBuf};
 
 use leverbonnet::{sheet_text, Error};
 
+fn examples() -> PathBuf {
+    Path::new(env!("CARGO_MANIFEST_DIR")).join("../examples")
+}
+
 fn stored_texts() -> Vec<PathBuf> {
-    let folder = Path::new(env!("CARGO_MANIFEST_DIR")).join("../examples");
-    let files = fs::read_dir(folder).unwrap().map(|file| file.unwrap());
+    let files = fs::read_dir(examples()).unwrap().map(|file| file.unwrap());
     let texts = files.map(|file| file.path());
     texts
         .filter(|path| path.extension().map_or(false, |kind| kind == "txt"))
@@ -38,7 +41,12 @@ fn each_example_has_its_stored_text() {
 
 #[test]
 fn bytes_past_the_longest_job_do_not_change_the_refusal() {
-    let mut job = include_bytes!("../../examples/longest.job").to_vec();
-    job.resize(100_000, 0);
-    assert_eq!(printed(&job), b"REFUSED 8 17161\n");
+    for (name, refused) in [
+        ("longest.job", b"REFUSED 8 17161\n"),
+        ("longest-version-2.job", b"REFUSED 8 17273\n"),
+    ] {
+        let mut job = fs::read(examples().join(name)).unwrap();
+        job.resize(100_000, 0);
+        assert_eq!(printed(&job), refused);
+    }
 }

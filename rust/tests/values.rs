@@ -1,13 +1,19 @@
 //! The values to try a program on of docs/RULES.md that no theorem has: layouts,
-//! the worked job in a slow stack, with the least gas, at the limits of line 18, and
-//! made bad.
+//! the worked job in a slow stack, with the least gas, at the limits of line 18, with
+//! letters, and made bad.
 
-use leverbonnet::{rect_distances, reduce_run, round_distances, run_numbers, Error};
+use leverbonnet::{rect_distances, reduce_run, round_distances, run_numbers, Error, Reduced};
 
 const WORKED: &[u8] = include_bytes!("../../examples/worked.job");
 
 /// Where the points of the worked job start.
 const POINTS: [usize; 8] = [137, 149, 161, 173, 185, 197, 209, 221];
+
+/// The places behind the serials of the worked job: those of its certificates, then
+/// those of its run's meter, pitot tube and nozzle.
+const BEHIND_SERIALS: [usize; 7] = [17, 33, 49, 65, 84, 91, 98];
+
+const NO_LETTERS: &[u8; 7] = &[0; 7];
 
 /// Number and place of the refusal of a job.
 fn refused(job: &[u8]) -> (u32, u32) {
@@ -22,6 +28,27 @@ fn with(place: usize, bytes: &[u8]) -> Vec<u8> {
     let mut job = WORKED.to_vec();
     job[place..place + bytes.len()].copy_from_slice(bytes);
     job
+}
+
+/// The worked job with both meter certificates of one day.
+fn with_one_day() -> Vec<u8> {
+    let day_of_the_first_certificate = &WORKED[17..19];
+    with(33, day_of_the_first_certificate)
+}
+
+/// The worked job, or the one with a day changed, in version 2 with these letters.
+fn in_version_2(job: &[u8], letters: &[u8; 7]) -> Vec<u8> {
+    let mut job = job.to_vec();
+    job[3] = 2;
+    for (&place, &letter) in BEHIND_SERIALS.iter().zip(letters).rev() {
+        job.insert(place, letter);
+    }
+    job
+}
+
+/// The rules that the run breaks.
+fn rules(run: &Reduced) -> Vec<u8> {
+    run.findings.iter().map(|finding| finding.rule).collect()
 }
 
 #[test]
@@ -93,7 +120,7 @@ fn at_a_limit(head: u16, reading: u32) -> Vec<u8> {
 
 #[test]
 fn the_percent_is_judged_before_it_is_rounded() {
-    for (head, reading, lines, rules) in [
+    for (head, reading, lines, broken) in [
         (432, 134_439, [41_375, 25_920, 80_431, 9_000], &[15][..]),
         (432, 134_440, [41_375, 25_920, 80_433, 9_000], &[]),
         (428, 142_721, [41_000, 25_920, 97_416, 11_000], &[]),
@@ -102,28 +129,55 @@ fn the_percent_is_judged_before_it_is_rounded() {
         let job = at_a_limit(head, reading);
         assert_eq!(values(&job, [15, 16, 17, 18]), lines.map(Some));
         let run = reduce_run(&job, 7).unwrap();
-        let found: Vec<u8> = run.findings.iter().map(|finding| finding.rule).collect();
-        assert_eq!(found, rules);
-        assert_eq!(run.accepted, rules.is_empty());
+        assert_eq!(rules(&run), broken);
+        assert_eq!(run.accepted, broken.is_empty());
     }
+}
+
+#[test]
+fn certificates_of_the_runs_own_letter() {
+    let worked = reduce_run(WORKED, 7).unwrap();
+    assert_eq!(in_version_2(WORKED, NO_LETTERS).len(), 272);
+    for (job, letters, broken) in [
+        (WORKED, NO_LETTERS, &[11][..]),
+        (WORKED, b"AA\0\0A\0\0", &[11]),
+        (WORKED, b"\0A\0\0\0\0\0", &[4, 11]),
+        (&with_one_day(), b"\0A\0\0\0\0\0", &[4, 11]),
+    ] {
+        let run = reduce_run(&in_version_2(job, letters), 7).unwrap();
+        assert_eq!(rules(&run), broken);
+        assert_eq!(run.lines, worked.lines);
+    }
+}
+
+#[test]
+fn a_rebuilt_meter_without_a_certificate() {
+    let run = reduce_run(&in_version_2(WORKED, b"\0\0\0\0A\0\0"), 7).unwrap();
+    assert_eq!(rules(&run), [1, 4, 11]);
+    let absent = run.lines.iter().filter(|line| line.value.is_none());
+    let absent: Vec<u8> = absent.map(|line| line.number).collect();
+    assert_eq!(absent, [6, 8, 10, 14, 15, 17, 18, 20]);
 }
 
 #[test]
 fn jobs_that_are_refused() {
     let mut with_a_byte_behind = WORKED.to_vec();
     with_a_byte_behind.push(0);
-    let day_of_the_first_certificate = &WORKED[17..19];
     for (job, refusal) in [
         (Vec::new(), (1, 0)),
         (WORKED[..100].to_vec(), (1, 100)),
-        (with(3, &[2]), (3, 3)),
+        (with(3, &[0]), (3, 3)),
+        (with(3, &[3]), (3, 3)),
+        (with(3, &[2]), (5, 17)),
         (with(7, &[0]), (4, 7)),
         (with(5, &[65]), (4, 5)),
         (with(11, b"b"), (5, 10)),
-        (with(33, day_of_the_first_certificate), (6, 25)),
+        (with_one_day(), (6, 25)),
         (with(233, &3599u16.to_le_bytes()), (7, 73)),
         (with(233, &3601u16.to_le_bytes()), (7, 73)),
         (with_a_byte_behind, (8, 265)),
+        (in_version_2(WORKED, b"\0\0\0\0\0\0a"), (5, 104)),
+        (in_version_2(&with_one_day(), NO_LETTERS), (6, 26)),
     ] {
         assert_eq!(refused(&job), refusal);
     }

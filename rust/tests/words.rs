@@ -105,6 +105,14 @@ fn a_finding_is_a_sentence_that_names_its_place() {
             "Fault 17, weighing 8: the two final weights differ by more than 0.5 mg and more than 1 percent of the net weight.",
         ),
         (
+            finding(1, Class::Fault, 0),
+            "Fault 1: the meter has no certificate of the run's day or earlier with the same maker, serial and letter.",
+        ),
+        (
+            finding(4, Class::Fault, 0),
+            "Fault 4: the meter has no certificate later than the run's day with the same maker, serial and letter.",
+        ),
+        (
             finding(5, Class::Note, 0),
             "Note 5: the meter's factor moved by more than 5 percent, and Y is the lower of the two.",
         ),
@@ -161,6 +169,17 @@ fn the_rules_each_have_a_clause_of_their_own() {
         .windows(2)
         .all(|two| two[0].number < two[1].number);
     assert!(rising, "the table is in order, none twice");
+}
+
+#[test]
+fn a_missing_certificate_is_said_to_be_one_by_maker_serial_and_letter() {
+    for number in 1..=4 {
+        let clause = texts::rule(number).unwrap().clause;
+        assert!(
+            clause.ends_with(" with the same maker, serial and letter"),
+            "{clause}"
+        );
+    }
 }
 
 #[test]

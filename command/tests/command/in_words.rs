@@ -18,7 +18,10 @@ fn the_words_hold_the_values_of_the_plain_sheet() {
         "several-runs",
         "percent-limits",
         "weighing-limits",
+        "rebuilt-meter",
+        "rebuilt-meter-no-letter",
         "longest",
+        "longest-version-2",
     ] {
         let file = format!("examples/{job}.job");
         let plain = ended(&mut leverbonnet(&["sheet", &file])).out;
@@ -114,6 +117,14 @@ fn refused_jobs_are_one_sentence_on_either_output() {
         (
             r#"head -c 100 examples/worked.job | "$1" sheet --words"#,
             "the file ends before the 1st run's 64 bytes are complete (1 at byte 100)",
+        ),
+        (
+            r#"printf 'SRJ\2\0\0\0\1\0' | "$1" sheet --words"#,
+            "the file ends before the 1st run's 67 bytes are complete (1 at byte 9)",
+        ),
+        (
+            r#"printf 'SRJ\3\0\0\0\1\0' | "$1" sheet --words"#,
+            "the version is 3 and not in its range, 1 or 2 (3 at byte 3)",
         ),
         (
             r#"cat examples/worked.job /dev/zero | "$1" sheet --words"#,

@@ -48,11 +48,13 @@ fn every_stored_sheet_is_printed_plain_and_in_words() {
 }
 
 #[test]
-fn the_longest_job_is_printed_as_the_independent_program_prints_it() {
-    let printed = sheet(&["examples/longest.job"]);
-    let expected = independent::sheet(&example_bytes("longest.job"));
-    assert_eq!(printed.out.into_bytes(), expected);
-    assert_eq!(printed.status, 0);
+fn the_longest_jobs_are_printed_as_the_independent_program_prints_them() {
+    for name in ["longest.job", "longest-version-2.job"] {
+        let printed = sheet(&[&format!("examples/{name}")]);
+        let expected = independent::sheet(&example_bytes(name));
+        assert_eq!(printed.out.into_bytes(), expected);
+        assert_eq!(printed.status, 0);
+    }
 }
 
 #[test]
