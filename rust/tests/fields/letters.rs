@@ -1,5 +1,7 @@
 //! The letters of version 2.
 
+use leverbonnet::Refusal;
+
 use crate::versions::in_version_2;
 use crate::{changed, told, with_number, SECOND_RUN, SEVERAL_RUNS, WORKED};
 
@@ -30,6 +32,22 @@ fn every_value_of_every_letter_of_the_worked_job() {
                 ),
             };
             assert_eq!(told(&changed(&job, place, &[value])), expected);
+        }
+    }
+}
+
+/// A refusal for a letter that is in order is another job's.
+#[test]
+fn a_letter_in_its_range_is_not_said_to_be_out_of_it() {
+    let job = in_version_2(WORKED).bytes;
+    for (place, _) in LETTERS {
+        let refusal = Refusal {
+            number: 5,
+            place: place as u32,
+        };
+        for letter in [0, b'A', b'Z'] {
+            let job = changed(&job, place, &[letter]);
+            assert_eq!(refusal.in_job(&job), refusal.cause());
         }
     }
 }
