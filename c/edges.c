@@ -146,8 +146,8 @@ static void finding_must_read(unsigned rule, int fault, unsigned place, const ch
 static void findings_in_words(void)
 {
     finding_must_read(1, 1, 0,
-                      "Fault 1: the meter has no certificate of the run's day or earlier with the same maker, serial and "
-                      "letter.");
+                      "Fault 1: the meter has no certificate of the run's day or earlier with the same maker, serial "
+                      "and letter.");
     finding_must_read(11, 0, 1, "Note 11, segment 1: the leak rate is above the allowance.");
     finding_must_read(17, 1, 8,
                       "Fault 17, weighing 8: the two final weights differ by more than 0.5 mg and more than 1 percent of the "

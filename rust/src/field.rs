@@ -1,5 +1,5 @@
-//! The fields of a job file, and the clause that names the one a refusal is
-//! about. The tables are those of docs/RULES.md, row by row.
+//! The fields of a job file in either version, and the clause that names the one a
+//! refusal is about. The tables are those of docs/RULES.md, row by row.
 //!
 //! Nothing is judged here again: what the proved call found is put into words, as
 //! far as the job's bytes bear it out.
