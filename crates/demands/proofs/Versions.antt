@@ -24,7 +24,7 @@ use Rattle.opening.specs.Opening.{versionOf, certificateCountOf}
 use Rattle.heads.specs.Values.{certificateSize, runHeaderSize, certificatePlace, certificate, header, spareByte}
 use Rattle.heads.specs.Rows.{identityRows, valueRows, certificateRows, readingRows, headerRows}
 use Rattle.job.specs.Places.{runStart}
-use Rattle.demands.specs.Versions.{Layout, LaidOut, lettered, version1, version2}
+use Rattle.demands.specs.Versions.{Layout, LaidOut, identity2, version1, version2}
 
 -- What the definitions say of a version and its table are the same
 record Fits (v : Version) (l : Layout) : Type 0 where
@@ -122,9 +122,9 @@ header-2 t =
     record {
       number = u16At t 0;
       day = u16At t 2;
-      meter = lettered t 4;
-      pitot = lettered t 12;
-      nozzle = lettered t 20;
+      meter = identity2 t 4;
+      pitot = identity2 t 12;
+      nozzle = identity2 t 20;
       pb = u16 25 i;
       pg = i16-behind 3 t 27 i;
       co2 = u16 29 i;
@@ -140,7 +140,7 @@ header-2 t =
 certificate-2 : (t : List ℕ) → certificate Two t ≡ version2 .certificate t
 certificate-2 t =
     let u16 = u16-behind 1 t in
-    λ i. record { kind = byteAt t 0; identity = lettered t 1; day = u16 8 i; first = u16 10 i; second = u16 12 i; third = u16 14 i }
+    λ i. record { kind = byteAt t 0; identity = identity2 t 1; day = u16 8 i; first = u16 10 i; second = u16 12 i; third = u16 14 i }
 
 fits-2 : Fits Two version2
 fits-2 =

@@ -51,8 +51,8 @@ pub record LaidOut (l : Layout) (s : List ℕ) : Type 0 where
 
 -- Version 1: maker and serial, and the letter is none
 
-abbrev pub plain : List ℕ → ℕ → Identity
-plain t at =
+abbrev pub identity1 : List ℕ → ℕ → Identity
+identity1 t at =
     record {
       maker = record { first = byteAt t at; second = byteAt t (at + 1); third = byteAt t (at + 2) };
       serial = u32At t (at + 3);
@@ -64,7 +64,7 @@ version1 =
     record {
       certificateBytes = 16;
       certificate = λ t.
-          record { kind = byteAt t 0; identity = plain t 1; day = u16At t 8; first = u16At t 10; second = u16At t 12; third = u16At t 14 };
+          record { kind = byteAt t 0; identity = identity1 t 1; day = u16At t 8; first = u16At t 10; second = u16At t 12; third = u16At t 14 };
       certificateFields = λ c.
           field 0 (certificateKind (c .kind))
           ∷ field 1 (makerLetters (c .identity .maker))
@@ -78,9 +78,9 @@ version1 =
           record {
             number = u16At t 0;
             day = u16At t 2;
-            meter = plain t 4;
-            pitot = plain t 11;
-            nozzle = plain t 18;
+            meter = identity1 t 4;
+            pitot = identity1 t 11;
+            nozzle = identity1 t 18;
             pb = u16At t 25;
             pg = i16At t 27;
             co2 = u16At t 29;
@@ -123,8 +123,8 @@ version1 =
 
 -- Version 2: a letter behind each serial
 
-abbrev pub lettered : List ℕ → ℕ → Identity
-lettered t at =
+abbrev pub identity2 : List ℕ → ℕ → Identity
+identity2 t at =
     record {
       maker = record { first = byteAt t at; second = byteAt t (at + 1); third = byteAt t (at + 2) };
       serial = u32At t (at + 3);
@@ -136,7 +136,7 @@ version2 =
     record {
       certificateBytes = 17;
       certificate = λ t.
-          record { kind = byteAt t 0; identity = lettered t 1; day = u16At t 9; first = u16At t 11; second = u16At t 13; third = u16At t 15 };
+          record { kind = byteAt t 0; identity = identity2 t 1; day = u16At t 9; first = u16At t 11; second = u16At t 13; third = u16At t 15 };
       certificateFields = λ c.
           field 0 (certificateKind (c .kind))
           ∷ field 1 (makerLetters (c .identity .maker))
@@ -151,9 +151,9 @@ version2 =
           record {
             number = u16At t 0;
             day = u16At t 2;
-            meter = lettered t 4;
-            pitot = lettered t 12;
-            nozzle = lettered t 20;
+            meter = identity2 t 4;
+            pitot = identity2 t 12;
+            nozzle = identity2 t 20;
             pb = u16At t 28;
             pg = i16At t 30;
             co2 = u16At t 32;

@@ -11,7 +11,7 @@ use borrow.Author.Tests.{leb-true}
 use lib.Dec.{leb}
 use Rattle.fields.specs.declared.trouble.Trouble.{Trouble}
 use Rattle.fields.specs.declared.trouble.Trouble.the-variants.{Clear, At}
-use Rattle.fields.specs.Trouble.{first, troubleUnless, unless, Row, moved, AllGood, checks, troublePlace, from, upTo}
+use Rattle.fields.specs.Trouble.{first, troubleUnless, unless, Row, movedAlong, AllGood, checks, troublePlace, from, upTo}
 
 -- Clear is no trouble at any place
 pub clear-not-at : {X : Type 0} {t : Trouble} {n p : ℕ} → t ≡ Clear → t ≡ At n p → X
@@ -87,11 +87,11 @@ checks-both t [] qs = refl
 checks-both t (r ∷ rs) qs = checks-both _ rs qs
 
 -- rows moved along: their trouble moved along
-checks-moved : (m : ℕ) (t : Trouble) (rs : List Row) → checks (from m t) (moved m rs) ≡ from m (checks t rs)
+checks-moved : (m : ℕ) (t : Trouble) (rs : List Row) → checks (from m t) (movedAlong m rs) ≡ from m (checks t rs)
 unfolding checks first
 checks-moved m t [] = refl
 checks-moved m t (r ∷ rs) =
-    ap (λ (u : Trouble). checks u (moved m rs)) (along t (r .ok)) ∙ checks-moved m (unless t (r .ok) (r .number) (r .place)) rs
+    ap (λ (u : Trouble). checks u (movedAlong m rs)) (along t (r .ok)) ∙ checks-moved m (unless t (r .ok) (r .number) (r .place)) rs
   where
     along : (t : Trouble) (ok : Bool) → unless (from m t) ok (r .number) (m + r .place) ≡ from m (unless t ok (r .number) (r .place))
     along (At n p) ok = refl
@@ -99,11 +99,11 @@ checks-moved m t (r ∷ rs) =
     along Clear false = refl
 
 -- rows and then others moved along: the trouble of the first, or else that of the others, moved along
-checks-then : (rs : List Row) (m : ℕ) (qs : List Row) → checks Clear (rs ++ moved m qs) ≡ first (checks Clear rs) (from m (checks Clear qs))
-checks-then rs m qs = checks-both Clear rs (moved m qs) ∙ checks-first _ (moved m qs) ∙ ap (first (checks Clear rs)) (checks-moved m Clear qs)
+checks-then : (rs : List Row) (m : ℕ) (qs : List Row) → checks Clear (rs ++ movedAlong m qs) ≡ first (checks Clear rs) (from m (checks Clear qs))
+checks-then rs m qs = checks-both Clear rs (movedAlong m qs) ∙ checks-first _ (movedAlong m qs) ∙ ap (first (checks Clear rs)) (checks-moved m Clear qs)
 
 -- so the code answers the trouble r of the first early ..
-pub then-met : (rs : List Row) (m : ℕ) (qs : List Row) {r : Trouble} {n p : ℕ} → r ≡ checks Clear rs → r ≡ At n p → r ≡ checks Clear (rs ++ moved m qs)
+pub then-met : (rs : List Row) (m : ℕ) (qs : List Row) {r : Trouble} {n p : ℕ} → r ≡ checks Clear rs → r ≡ At n p → r ≡ checks Clear (rs ++ movedAlong m qs)
 then-met rs m qs e told = first-met _ e told ∙ sym (checks-then rs m qs)
 
 -- .. or q was clear, and it answers that of the others
@@ -114,7 +114,7 @@ pub then-passed :
     → own ≡ checks Clear qs
     → l ≡ m
     → r ≡ from l own
-    → r ≡ checks Clear (rs ++ moved m qs)
+    → r ≡ checks Clear (rs ++ movedAlong m qs)
 then-passed rs m qs e told others along f = first-passed e told (f ∙ ap₂ from along others) ∙ sym (checks-then rs m qs)
 
 pub checks-clear : (rs : List Row) → checks Clear rs ≡ Clear → AllGood rs

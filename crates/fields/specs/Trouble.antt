@@ -70,9 +70,9 @@ abbrev pub field : ℕ → Bool → Row
 field place ok = record { number = fieldRange; place = place; ok = ok }
 
 -- rows moved along
-abbrev pub moved : ℕ → List Row → List Row
-moved m [] = []
-moved m (r ∷ rs) = record { number = r .number; place = m + r .place; ok = r .ok } ∷ moved m rs
+abbrev pub movedAlong : ℕ → List Row → List Row
+movedAlong m [] = []
+movedAlong m (r ∷ rs) = record { number = r .number; place = m + r .place; ok = r .ok } ∷ movedAlong m rs
 
 -- every field is good
 abbrev pub AllGood : List Row → Type 0

@@ -1,7 +1,5 @@
 -- What stands behind the identities is as long as in version 1.
 use mathlib.Core.Path.{_∙_, ap}
-use mathlib.Core.List.{List}
-use Prim.Native.Nat.{ℕ}
 use native.Mathlib.Omega.{arith}
 use borrow.Author.Needs.{needs}
 use Rattle.readings.specs.declared.headers.Version.the-variants.{One}
