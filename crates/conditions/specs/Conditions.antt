@@ -7,12 +7,12 @@ use Rattle.values.specs.declared.Ratio.the-variants.{Exact, Unworked}
 use Rattle.values.specs.declared.Value.{Value}
 use Rattle.values.specs.declared.Value.the-variants.{Known, Missing}
 use Rattle.metering.specs.Metering.{allowance}
-use Rattle.certs.specs.declared.Lookup.{Lookup}
-use Rattle.certs.specs.declared.Lookup.the-variants.{Found, Nothing}
+use Rattle.choosing.specs.declared.Lookup.{Lookup}
+use Rattle.choosing.specs.declared.Lookup.the-variants.{Found, Nothing}
 use Rattle.grounds.specs.declared.comparison.Way.{Way}
 use Rattle.grounds.specs.declared.comparison.Way.the-variants.{Below, Above}
 use Rattle.grounds.specs.Comparing.{compare, compareExactly, apart}
-use Rattle.certs.specs.Factor.{factorMoved}
+use Rattle.factors.specs.Factor.{factorMoved}
 use Rattle.grounds.specs.declared.Ground.{Ground}
 use Rattle.grounds.specs.declared.Ground.the-variants.{Silent, NoCertificate, Compared, Exactly, SignedBelow}
 use Rattle.conditions.specs.declared.Part.{Part}

@@ -2,8 +2,7 @@
 
 use arith::larger;
 use arith::smaller;
-use certs::Lookup;
-use certs::factor;
+use choosing::Lookup;
 use grounds::Ground;
 use grounds::comparison::Comparison;
 use grounds::comparison::Way;
@@ -33,7 +32,7 @@ pub fn moved(before: Lookup, after: Lookup) -> Ground
     let Lookup::Found(a) = after else {
         return Ground::Silent;
     };
-    Ground::Compared(factor::factor_moved(b.first, a.first))
+    Ground::Compared(factors::factor_moved(b.first, a.first))
 }
 
 // The highest of three diameters less the lowest.

@@ -8,7 +8,7 @@ use Rattle.metering.specs.Metering.{metering}
 use Rattle.stack.specs.Stack.{stack}
 use Rattle.sampling.specs.Sampling.{sampling}
 use Rattle.lines.specs.Sheet.{lines, sheet, noEntry, lineCount}
-use Rattle.certs.specs.declared.Chosen.{Chosen}
+use Rattle.choosing.specs.declared.Chosen.{Chosen}
 use Rattle.findings.specs.Listing.{linesFor}
 use Rattle.job.specs.Places.{runOf}
 use Rattle.reduction.specs.Reducing.{worked, reduction, chosenIn, reducedRun}

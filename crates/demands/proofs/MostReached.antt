@@ -17,10 +17,10 @@ use Rattle.metering.specs.Metering.{time, meteredVolume, allowance, leakLoss, l
 use Rattle.stack.specs.Stack.{wetWeight, densityRoot, velocity, stack}
 use Rattle.sampling.specs.Sampling.{drawnGas, isokinetic, deduction, finalWeights, tares, catch, sampling}
 use Rattle.lines.specs.Sheet.{lines}
-use Rattle.certs.specs.declared.Lookup.the-variants.{Nothing}
-use Rattle.certs.specs.declared.Chosen.{Chosen}
+use Rattle.choosing.specs.declared.Lookup.the-variants.{Nothing}
+use Rattle.choosing.specs.declared.Chosen.{Chosen}
 use Rattle.grounds.specs.Comparing.{holds, apart}
-use Rattle.certs.specs.Factor.{factorOf, coefficientOf, diametersOf}
+use Rattle.factors.specs.Factor.{factorOf, coefficientOf, diametersOf}
 use Rattle.grounds.specs.Grounds.{broken}
 use Rattle.site.specs.Site.{diameter, halfDiameter, undisturbed, minimumPoints, nextAllowed}
 use Rattle.conditions.specs.Conditions.{missing, moved, uneven, short, leaking, lineAgainst, ratioAgainst, steadyLimit, unsteady}

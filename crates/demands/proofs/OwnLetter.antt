@@ -6,8 +6,8 @@ use mathlib.Core.List.{List}
 use Rattle.readings.specs.Ranges.{meter, pitot, nozzle}
 use Rattle.records.specs.declared.Identity.{Identity}
 use Rattle.records.specs.declared.Certificate.{Certificate}
-use Rattle.certs.specs.Choosing.{chosen, chosenFor}
-use Rattle.certs.proofs.Choosing.{chosen-found}
+use Rattle.choosing.specs.Choosing.{chosen, chosenFor}
+use Rattle.choosing.proofs.Choosing.{chosen-found}
 use Rattle.opening.specs.Opening.{certificateCountOf}
 use Rattle.heads.specs.Values.{certificateOf}
 use Rattle.job.specs.Places.{runOf}

@@ -21,9 +21,9 @@ use Rattle.sampling.specs.Sampling.{sampling}
 use Rattle.sampling.proofs.Percent.{WorkedFrom, worked-or-not, divisor-some}
 use Rattle.lines.specs.declared.Lines.{Lines}
 use Rattle.lines.specs.Sheet.{lines, always, ifKnown}
-use Rattle.certs.specs.declared.Chosen.{Chosen}
-use Rattle.certs.specs.InRange.{ChosenOk}
-use Rattle.certs.proofs.Values.{diameters-range}
+use Rattle.choosing.specs.declared.Chosen.{Chosen}
+use Rattle.factors.specs.InRange.{ChosenOk}
+use Rattle.factors.proofs.Values.{diameters-range}
 use Rattle.grounds.specs.Grounds.{broken}
 use Rattle.conditions.specs.Conditions.{ratioAgainst}
 use Rattle.conditions.proofs.Words.{ratio-exactly}

@@ -11,9 +11,9 @@ use Rattle.values.specs.Signed.{addScaled}
 use Rattle.sampling.specs.Sampling.{nozzleArea, drawnGas, isokinetic, deduction, finalWeights, tares, catch, concentration, sampling}
 use Rattle.lines.specs.Sheet.{lines, sheet}
 use Rattle.stack.specs.Stack.{dryWeight, wetWeight, stackPressure, stackTemperature, pointRoot, meanRoot, densityRoot, velocity, stack}
-use Rattle.certs.specs.Choosing.{eligible, keep, chosen, chosenFor}
+use Rattle.choosing.specs.Choosing.{eligible, keep, chosen, chosenFor}
 use Rattle.grounds.specs.Comparing.{holds, deciding, apart}
-use Rattle.certs.specs.Factor.{factorMoved, factor, factorOf, coefficientOf, diametersOf}
+use Rattle.factors.specs.Factor.{factorMoved, factor, factorOf, coefficientOf, diametersOf}
 use Rattle.grounds.specs.Grounds.{broken}
 use Rattle.findings.specs.Listing.{partOf, ofKind, besideOf, brokenAt, findingAt, ruleFindings, findingsTo, findings, accepted, listed, linesFor, findingsFor}
 use Rattle.site.specs.Site.{diameter, halfDiameter, undisturbed, minimumPoints, nextAllowed}

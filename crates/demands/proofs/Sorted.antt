@@ -13,7 +13,7 @@ use Rattle.grids.specs.Grids.{oneOf}
 use Rattle.records.specs.declared.Counts.{Counts}
 use Rattle.records.specs.declared.Run.{Run}
 use Rattle.lines.specs.declared.Lines.{Lines}
-use Rattle.certs.specs.declared.Chosen.{Chosen}
+use Rattle.choosing.specs.declared.Chosen.{Chosen}
 use Rattle.findings.specs.declared.Finding.{Finding}
 use Rattle.rules.specs.Rules.{lastRule, placesOf, placeAt, classOf}
 use Rattle.findings.specs.Listing.{brokenAt, findingAt, ruleFindings, findingsTo, findings, noFinding}

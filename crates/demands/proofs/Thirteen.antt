@@ -8,10 +8,10 @@ use Rattle.values.specs.declared.Value.the-variants.{Known}
 use Rattle.metering.proofs.DryVolume.{dry-some}
 use Rattle.lines.specs.declared.Lines.{Lines}
 use Rattle.lines.specs.Sheet.{lines}
-use Rattle.certs.specs.declared.Chosen.{Chosen}
-use Rattle.certs.specs.Factor.{factorOf}
-use Rattle.certs.specs.InRange.{ChosenOk}
-use Rattle.certs.proofs.Values.{factor-range}
+use Rattle.choosing.specs.declared.Chosen.{Chosen}
+use Rattle.factors.specs.Factor.{factorOf}
+use Rattle.factors.specs.InRange.{ChosenOk}
+use Rattle.factors.proofs.Values.{factor-range}
 use Rattle.grounds.specs.Grounds.{broken}
 use Rattle.rules.specs.Rules.{table, groundOf}
 use Rattle.findings.specs.Listing.{brokenAt, findings, linesFor, HasFinding}

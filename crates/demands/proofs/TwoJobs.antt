@@ -6,8 +6,8 @@ use native.Mathlib.Decide.{decLt}
 use native.Mathlib.Omega.{arith}
 use lib.ListN.{length}
 use Rattle.fields.specs.declared.trouble.Trouble.the-variants.{Clear}
-use Rattle.certs.specs.Choosing.{Unique, Of}
-use Rattle.certs.proofs.Choosing.{chosenFor-same-members}
+use Rattle.choosing.specs.Choosing.{Unique, Of}
+use Rattle.choosing.proofs.Choosing.{chosenFor-same-members}
 use Rattle.heads.specs.Values.{certificateOf}
 use Rattle.opening.specs.Opening.{certificateCountOf}
 use Rattle.job.specs.Places.{runOf}

@@ -22,7 +22,8 @@ use Rattle.records.specs.declared.RunHeader.{RunHeader}
 use Rattle.records.specs.InRange.{makerLetters}
 use Rattle.opening.specs.Opening.{versionOf, certificateCountOf}
 use Rattle.heads.specs.Values.{certificateSize, runHeaderSize, certificatePlace, certificate, header, spareByte}
-use Rattle.heads.specs.Rows.{identityRows, valueRows, certificateRows, readingRows, headerRows}
+use Rattle.identities.specs.Identities.{identityRows}
+use Rattle.heads.specs.Rows.{valueRows, certificateRows, readingRows, headerRows}
 use Rattle.job.specs.Places.{runStart}
 use Rattle.demands.specs.Versions.{Layout, LaidOut, identity2, version1, version2}
 

@@ -10,7 +10,7 @@ use Rattle.arith.proofs.Differences.{either-sign}
 use Rattle.records.specs.declared.Run.{Run}
 use Rattle.records.specs.declared.Weighing.{Weighing}
 use Rattle.records.specs.Records.{weighingOf}
-use Rattle.certs.specs.declared.Chosen.{Chosen}
+use Rattle.choosing.specs.declared.Chosen.{Chosen}
 use Rattle.grounds.specs.Grounds.{broken}
 use Rattle.conditions.specs.declared.Part.the-variants.{OneWeighing}
 use Rattle.conditions.specs.Conditions.{difference, net, unsteady}

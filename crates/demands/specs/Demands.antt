@@ -6,7 +6,7 @@ use mathlib.Core.List.{List}
 use mathlib.Core.Logic.{_⊎_, _↔_}
 use lib.ListN.{length, take, drop, getD}
 use Rattle.fields.specs.declared.trouble.Trouble.the-variants.{Clear}
-use Rattle.certs.specs.Choosing.{SameForRun}
+use Rattle.choosing.specs.Choosing.{SameForRun}
 use Rattle.rules.specs.Rules.{fault, classOf}
 use Rattle.findings.specs.declared.Finding.{Finding}
 use Rattle.findings.specs.Listing.{mostFindings, noFinding, linesFor, Breaks, HasFinding}

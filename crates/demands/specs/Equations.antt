@@ -14,8 +14,8 @@ use Rattle.sampling.specs.Sampling.{nozzleArea, drawnGas, isokinetic, catch, co
 use Rattle.lines.specs.declared.Entry.{Entry}
 use Rattle.lines.specs.declared.Line.the-variants.{Present}
 use Rattle.lines.specs.Sheet.{always, ifKnown, noEntry}
-use Rattle.certs.specs.declared.Chosen.{Chosen}
-use Rattle.certs.specs.Factor.{factorOf, coefficientOf, diametersOf}
+use Rattle.choosing.specs.declared.Chosen.{Chosen}
+use Rattle.factors.specs.Factor.{factorOf, coefficientOf, diametersOf}
 
 -- Lines 1 to 20 of a run, from its own readings and from the certificates chosen for it
 unfoldable pub equations : Run → Chosen → List Entry

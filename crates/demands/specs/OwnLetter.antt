@@ -5,8 +5,8 @@ use mathlib.Core.List.{List}
 use Rattle.readings.specs.Ranges.{meter, pitot, nozzle}
 use Rattle.records.specs.declared.Identity.{Identity}
 use Rattle.records.specs.declared.Certificate.{Certificate}
-use Rattle.certs.specs.declared.Lookup.{Lookup}
-use Rattle.certs.specs.declared.Lookup.the-variants.{Found}
+use Rattle.choosing.specs.declared.Lookup.{Lookup}
+use Rattle.choosing.specs.declared.Lookup.the-variants.{Found}
 use Rattle.job.specs.Places.{runOf}
 use Rattle.reduction.specs.Reducing.{chosenIn}
 

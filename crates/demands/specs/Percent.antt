@@ -6,7 +6,7 @@ use Rattle.arith.specs.Rounding.{roundDiv}
 use Rattle.records.specs.declared.Run.{Run}
 use Rattle.lines.specs.declared.Line.the-variants.{Absent}
 use Rattle.lines.specs.Sheet.{always}
-use Rattle.certs.specs.declared.Chosen.{Chosen}
+use Rattle.choosing.specs.declared.Chosen.{Chosen}
 use Rattle.findings.specs.Listing.{linesFor, Breaks}
 use Rattle.demands.specs.Equations.{equation}
 

@@ -9,7 +9,7 @@ use Rattle.fields.specs.Numbers.{byteAt}
 use Rattle.fields.specs.Trouble.{Row, AllGood}
 use Rattle.records.specs.declared.Certificate.{Certificate}
 use Rattle.records.specs.declared.Counts.{Counts}
-use Rattle.certs.specs.Choosing.{Of}
+use Rattle.choosing.specs.Choosing.{Of}
 use Rattle.opening.specs.Opening.{fileHeaderSize, versionOf, certificateCountOf, runCountOf, fileRows}
 use Rattle.heads.specs.Values.{certificateSize, runHeaderSize, spareByte, certificatePlace, certificateOf, headerAt}
 use Rattle.heads.specs.Rows.{certificateRows, headerRows}

@@ -6,7 +6,7 @@ use lib.IntN.{pos}
 use lib.Signed.{_<ℤ_}
 use Rattle.records.specs.declared.Run.{Run}
 use Rattle.records.specs.Records.{weighingOf}
-use Rattle.certs.specs.declared.Chosen.{Chosen}
+use Rattle.choosing.specs.declared.Chosen.{Chosen}
 use Rattle.conditions.specs.Conditions.{difference, net}
 use Rattle.findings.specs.Listing.{linesFor, Breaks}
 

@@ -11,7 +11,7 @@ use Rattle.stack.proofs.Cases.{wet-missing, density-missing, velocity-no-densit
 use Rattle.sampling.specs.Sampling.{sampling}
 use Rattle.sampling.proofs.Cases.{isokinetic-no-velocity, isokinetic-still}
 use Rattle.lines.specs.Sheet.{lines}
-use Rattle.certs.specs.declared.Chosen.{Chosen}
+use Rattle.choosing.specs.declared.Chosen.{Chosen}
 use Rattle.findings.specs.Listing.{linesFor}
 
 module _ (r : Run) (ch : Chosen) (l : Lines) (is : l ≡ linesFor r ch) where

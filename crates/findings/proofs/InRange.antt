@@ -9,7 +9,7 @@ use Rattle.records.specs.declared.Run.{Run}
 use Rattle.lines.specs.declared.Lines.{Lines}
 use Rattle.metering.specs.Metering.{time, meteredVolume, metering}
 use Rattle.lines.specs.Sheet.{lines}
-use Rattle.certs.specs.declared.Chosen.{Chosen}
+use Rattle.choosing.specs.declared.Chosen.{Chosen}
 use Rattle.rules.specs.declared.Beside.{Beside}
 use Rattle.rules.specs.Rules.{Judgeable, placesOf}
 use Rattle.findings.specs.Listing.{besideOf, linesFor, Worked}

@@ -9,7 +9,7 @@ use native.Mathlib.Omega.{arith}
 use lib.ListN.{length, getD}
 use Rattle.records.specs.declared.Run.{Run}
 use Rattle.lines.specs.declared.Lines.{Lines}
-use Rattle.certs.specs.declared.Chosen.{Chosen}
+use Rattle.choosing.specs.declared.Chosen.{Chosen}
 use Rattle.findings.specs.declared.Finding.{Finding}
 use Rattle.rules.specs.Rules.{lastRule, placesOf, placeAt}
 use Rattle.findings.specs.Listing.{brokenAt, findingAt, ruleFindings, findingsTo, findings, noFinding, Breaks, HasFinding}

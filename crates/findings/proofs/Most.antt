@@ -20,9 +20,9 @@ use Rattle.values.specs.declared.Ratio.the-variants.{Exact, Unworked}
 use Rattle.values.specs.declared.Value.{Value}
 use Rattle.values.specs.declared.Value.the-variants.{Known, Missing}
 use Rattle.lines.specs.declared.Lines.{Lines}
-use Rattle.certs.specs.declared.Lookup.{Lookup}
-use Rattle.certs.specs.declared.Lookup.the-variants.{Found, Nothing}
-use Rattle.certs.specs.declared.Chosen.{Chosen}
+use Rattle.choosing.specs.declared.Lookup.{Lookup}
+use Rattle.choosing.specs.declared.Lookup.the-variants.{Found, Nothing}
+use Rattle.choosing.specs.declared.Chosen.{Chosen}
 use Rattle.grounds.specs.declared.comparison.Way.the-variants.{Below, Above, Same}
 use Rattle.grounds.specs.Comparing.{holds, deciding, compareExactly}
 use Rattle.rules.specs.declared.Beside.{Beside}

@@ -13,8 +13,8 @@ use Rattle.records.specs.Records.{noWeighing, pointOf, segmentOf, weighingOf, s
 use Rattle.records.specs.InRange.{RunOk}
 use Rattle.lines.specs.declared.Lines.{Lines}
 use Rattle.lines.specs.Sheet.{lines}
-use Rattle.certs.specs.declared.Chosen.{Chosen}
-use Rattle.certs.specs.Factor.{factorOf, coefficientOf, diametersOf}
+use Rattle.choosing.specs.declared.Chosen.{Chosen}
+use Rattle.factors.specs.Factor.{factorOf, coefficientOf, diametersOf}
 use Rattle.conditions.specs.declared.Part.{Part}
 use Rattle.conditions.specs.declared.Part.the-variants.{Whole, OnePoint, OneSegment, OneWeighing}
 use Rattle.rules.specs.declared.Beside.{Beside}

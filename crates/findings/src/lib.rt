@@ -3,7 +3,7 @@
 
 pub mod weighings;
 
-use certs::Chosen;
+use choosing::Chosen;
 use conditions::Part;
 use lines::Lines;
 use readings::weighings::WeighingKind;

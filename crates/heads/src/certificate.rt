@@ -1,6 +1,5 @@
 // A certificate, 16 bytes, in version 2 17.
 
-use crate::identity;
 use fields::numbers;
 use fields::trouble::Trouble;
 use readings::certificates::CertificateKind;
@@ -33,10 +32,10 @@ pub fn certificate(t: &[u8], v: Version) -> Certificate
     requires { ⌜ certificateSize v ≤ length (now t) ⌝ }
     ensures { λ r. ⌜ r ≡ certificate v (now (t .entry)) ⌝ }
 {
-    let rest = identity::behind(t, v, 1);
+    let rest = identities::behind(t, v, 1);
     Certificate {
         kind: numbers::byte(t, 0),
-        identity: identity::identity(t, v, 1),
+        identity: identities::identity(t, v, 1),
         day: numbers::u16_at(rest, 8),
         first: numbers::u16_at(rest, 10),
         second: numbers::u16_at(rest, 12),
@@ -97,7 +96,7 @@ fn rows(v: Version, c: Certificate) -> Trouble
 {
     let t = Trouble::Clear;
     let t = t.unless(CertificateKind::check(c.kind), Trouble::FIELD, 0);
-    let t = identity::rows(t, c.identity, 1);
+    let t = identities::rows(t, c.identity, 1);
     let Trouble::Clear = t else {
         return t;
     };

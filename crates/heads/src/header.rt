@@ -1,6 +1,5 @@
 // A run's header, 64 bytes, in version 2 67, before its points, segments and weighings.
 
-use crate::identity;
 use fields::numbers;
 use fields::trouble::Trouble;
 use readings::certificates::Unused;
@@ -89,9 +88,9 @@ fn header_with(t: &[u8], rest: &[u8], v: Version) -> RunHeader
     RunHeader {
         number: numbers::u16_at(t, 0),
         day: numbers::u16_at(t, 2),
-        meter: identity::identity(t, v, 4),
-        pitot: identity::identity(t, v, 11 + opening::letters(v, 1)),
-        nozzle: identity::identity(t, v, 18 + opening::letters(v, 2)),
+        meter: identities::identity(t, v, 4),
+        pitot: identities::identity(t, v, 11 + opening::letters(v, 1)),
+        nozzle: identities::identity(t, v, 18 + opening::letters(v, 2)),
         pb: numbers::u16_at(rest, 25),
         pg: numbers::i16_at(rest, 27),
         co2: numbers::u16_at(rest, 29),
@@ -109,7 +108,7 @@ pub fn header(t: &[u8], v: Version) -> RunHeader
     requires { ⌜ runHeaderSize v ≤ length (now t) ⌝ }
     ensures { λ r. ⌜ r ≡ header v (now (t .entry)) ⌝ }
 {
-    header_with(t, identity::behind(t, v, 3), v)
+    header_with(t, identities::behind(t, v, 3), v)
 }
 
 fn reading_rows(h: RunHeader, spare: u8) -> Trouble
@@ -144,9 +143,9 @@ fn rows(v: Version, h: RunHeader, spare: u8) -> Trouble
 {
     let t = Trouble::Clear;
     let t = t.unless(RunNumber::check(h.number), Trouble::FIELD, 0);
-    let t = identity::rows(t, h.meter, 4);
-    let t = identity::rows(t, h.pitot, 11 + opening::letters(v, 1));
-    let t = identity::rows(t, h.nozzle, 18 + opening::letters(v, 2));
+    let t = identities::rows(t, h.meter, 4);
+    let t = identities::rows(t, h.pitot, 11 + opening::letters(v, 1));
+    let t = identities::rows(t, h.nozzle, 18 + opening::letters(v, 2));
     let Trouble::Clear = t else {
         return t;
     };
@@ -161,6 +160,6 @@ pub fn trouble(s: &[u8], v: Version, at: usize) -> Trouble
     if t.len() < size(v) {
         return Trouble::At(Trouble::INCOMPLETE, s.len());
     }
-    let spare = numbers::byte(identity::behind(t, v, 3), 63);
+    let spare = numbers::byte(identities::behind(t, v, 3), 63);
     rows(v, header(t, v), spare).from(at)
 }

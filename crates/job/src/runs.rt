@@ -3,7 +3,6 @@
 use fields::numbers;
 use fields::trouble::Trouble;
 use heads::header;
-use heads::identity;
 use parts::point;
 use parts::segment;
 use parts::weighing;
@@ -90,7 +89,7 @@ fn next_start(s: &[u8], v: Version, start: usize) -> usize
     ensures { λ r. ⌜ r ≡ nextStart (now (s .entry)) start ⌝ }
 {
     let t = numbers::tail(s, start);
-    let n = header::counts(identity::behind(t, v, 3));
+    let n = header::counts(identities::behind(t, v, 3));
     let at_segments = start + header::size(v) + point::SIZE * (n.points as usize);
     let at_weighings = at_segments + segment::SIZE * (n.segments as usize);
     at_weighings + weighing::SIZE * (n.weighings as usize)

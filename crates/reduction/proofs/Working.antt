@@ -13,11 +13,11 @@ use Rattle.lines.specs.declared.Sheet.{Sheet}
 use Rattle.values.specs.declared.Value.{Value}
 use Rattle.lines.specs.Promise.{RunWithValues}
 use Rattle.lines.specs.Sheet.{lines, sheet}
-use Rattle.certs.specs.declared.Chosen.{Chosen}
-use Rattle.certs.specs.Choosing.{chosenFor}
-use Rattle.certs.specs.Factor.{factorOf, coefficientOf, diametersOf}
-use Rattle.certs.specs.InRange.{ChosenOk}
-use Rattle.certs.proofs.Values.{chosen-in-range, factor-range, coefficient-range, diameters-range}
+use Rattle.choosing.specs.declared.Chosen.{Chosen}
+use Rattle.choosing.specs.Choosing.{chosenFor}
+use Rattle.factors.specs.Factor.{factorOf, coefficientOf, diametersOf}
+use Rattle.factors.specs.InRange.{ChosenOk}
+use Rattle.factors.proofs.Values.{chosen-in-range, factor-range, coefficient-range, diameters-range}
 use Rattle.findings.specs.declared.Finding.{Finding}
 use Rattle.findings.specs.declared.Findings.{Findings}
 use Rattle.findings.specs.Listing.{mostFindings, noFinding, findings, accepted, listed, linesFor, findingsFor}

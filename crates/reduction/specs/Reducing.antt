@@ -11,9 +11,9 @@ use Rattle.records.specs.declared.Certificate.{Certificate}
 use Rattle.records.specs.declared.Run.{Run}
 use Rattle.records.specs.InRange.{RunOk}
 use Rattle.lines.specs.Sheet.{sheet}
-use Rattle.certs.specs.declared.Chosen.{Chosen}
-use Rattle.certs.specs.Choosing.{chosenFor}
-use Rattle.certs.specs.InRange.{CertificatesOk}
+use Rattle.choosing.specs.declared.Chosen.{Chosen}
+use Rattle.choosing.specs.Choosing.{chosenFor}
+use Rattle.factors.specs.InRange.{CertificatesOk}
 use Rattle.findings.specs.Listing.{accepted, linesFor, findingsFor, listed}
 use Rattle.heads.specs.Values.{certificatePlace, certificateOf}
 use Rattle.job.specs.declared.Job.{Job}

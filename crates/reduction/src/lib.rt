@@ -1,7 +1,6 @@
 // A run of a job reduced: its certificates are chosen, its sheet worked and its findings listed.
 // Relies on the reader's promise that what it reads is in range, and on the promises of the lines and the findings.
 
-use certs::factor;
 use fields::numbers;
 use findings::Findings;
 use job::Job;
@@ -35,9 +34,9 @@ pub fn work(s: &[u8], v: Version, count: usize, run: Run) -> Reduced
     ensures { λ r. ⌜ r ≡ reduction (certificateOf (now (s .entry))) count run ⌝ }
 {
     let chosen = certs::choose_all(s, v, count, run.header);
-    let y = factor::factor_of(chosen);
-    let cp = factor::coefficient_of(chosen);
-    let nozzle = factor::diameters_of(chosen);
+    let y = factors::factor_of(chosen);
+    let cp = factors::coefficient_of(chosen);
+    let nozzle = factors::diameters_of(chosen);
     let l = sheets::lines(run, y, cp, nozzle);
     let found = findings::find(run, chosen, l);
     Reduced {

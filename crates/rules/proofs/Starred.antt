@@ -6,7 +6,7 @@ use native.Mathlib.Omega.{arith}
 use borrow.Author.Tests.{le-ltb}
 use Rattle.grounds.specs.declared.comparison.Way.the-variants.{Below, Above}
 use Rattle.grounds.specs.Comparing.{holds, compare, deciding, compareExactly, apart}
-use Rattle.certs.specs.Factor.{factorMoved, factor, factorOf}
+use Rattle.factors.specs.Factor.{factorMoved, factor, factorOf}
 use Rattle.grounds.specs.Grounds.{broken}
 use Rattle.conditions.specs.Conditions.{moved, ratioAgainst, leastIsokinetic, greatestIsokinetic, steadyLimit, unsteady}
 use Rattle.rules.specs.Rules.{table, groundOf}

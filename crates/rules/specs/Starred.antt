@@ -9,8 +9,8 @@ use Rattle.records.specs.declared.Certificate.{Certificate}
 use Rattle.records.specs.declared.Weighing.{Weighing}
 use Rattle.values.specs.declared.Ratio.the-variants.{Exact}
 use Rattle.values.specs.declared.Value.the-variants.{Known}
-use Rattle.certs.specs.declared.Lookup.the-variants.{Found}
-use Rattle.certs.specs.Factor.{factorOf}
+use Rattle.choosing.specs.declared.Lookup.the-variants.{Found}
+use Rattle.factors.specs.Factor.{factorOf}
 use Rattle.conditions.specs.declared.Part.{Part}
 use Rattle.conditions.specs.declared.Part.the-variants.{OneWeighing}
 use Rattle.conditions.specs.Conditions.{difference, net}

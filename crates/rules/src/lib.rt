@@ -1,7 +1,7 @@
 // The table of the rules: what each goes by, from the part that it looks at and from what it may see beside it; of what
 // places it speaks, and its class. Relies on the conditions.
 
-use certs::Chosen;
+use choosing::Chosen;
 use conditions::Part;
 use conditions::certificates::missing;
 use conditions::certificates::moved;

@@ -17,7 +17,7 @@ use Rattle.lines.specs.declared.Line.{Line}
 use Rattle.lines.specs.declared.Line.the-variants.{Present, Absent}
 use Rattle.lines.specs.declared.Sheet.{Sheet}
 use Rattle.lines.specs.Sheet.{lineCount}
-use Rattle.certs.specs.declared.Chosen.{Chosen}
+use Rattle.choosing.specs.declared.Chosen.{Chosen}
 use Rattle.findings.specs.declared.Finding.{Finding}
 use Rattle.rules.specs.Rules.{placesOf, placeAt}
 use Rattle.findings.specs.Listing.{noFinding, mostFindings, listed, findingsFor, linesFor, Breaks}

@@ -5,9 +5,9 @@ use native.Mathlib.Omega.{arith}
 use borrow.Author.Needs.{needs}
 use Rattle.heads.specs.Values.{certificateOf}
 use Rattle.heads.proofs.Places.{ends-before}
-use Rattle.certs.specs.declared.Lookup.the-variants.{Found}
-use Rattle.certs.specs.Choosing.{chosen}
-use Rattle.certs.proofs.Choosing.{lookupAt, Best, best-none, best-replaced, best-kept}
+use Rattle.choosing.specs.declared.Lookup.the-variants.{Found}
+use Rattle.choosing.specs.Choosing.{chosen}
+use Rattle.certs.proofs.Best.{lookupAt, Best, best-none, best-replaced, best-kept}
 use Rattle.certs.proofs.choose.Statement.{statement}
 use Rattle.certs.proofs.choose.Tie as tie
 

@@ -1,6 +1,6 @@
 -- `choose_all` is `chosenFor`, certificate by certificate.
 use borrow.Author.Needs.{needs}
-use Rattle.certs.specs.Choosing.{chosenFor}
+use Rattle.choosing.specs.Choosing.{chosenFor}
 use Rattle.certs.proofs.choose_all.Statement.{statement}
 use Rattle.certs.proofs.choose_all.Tie as tie
 

@@ -2,7 +2,7 @@
 use borrow.Author.Needs.{needs}
 use Rattle.findings.specs.Listing.{mostFindings, listed, findings, Worked}
 use Rattle.records.specs.declared.Run.{Run}
-use Rattle.certs.specs.declared.Chosen.{Chosen}
+use Rattle.choosing.specs.declared.Chosen.{Chosen}
 use Rattle.lines.specs.declared.Lines.{Lines}
 use Rattle.findings.proofs.Most.{at-most}
 use Rattle.reduction.proofs.Working.{lines-workable, lines-worked, is-reduction}

@@ -11,7 +11,8 @@ use Rattle.readings.specs.Ranges.{certificateKind}
 use Rattle.records.specs.declared.Certificate.{Certificate}
 use Rattle.opening.specs.Opening.{letters}
 use Rattle.opening.proofs.HowMany.{few}
-use Rattle.heads.specs.Rows.{identityRows, valueRows}
+use Rattle.identities.specs.Identities.{identityRows}
+use Rattle.heads.specs.Rows.{valueRows}
 use Rattle.heads.proofs.certificate.rows.Statement.{statement}
 use Rattle.heads.proofs.certificate.rows.Tie as tie
 

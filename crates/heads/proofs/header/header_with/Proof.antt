@@ -5,7 +5,7 @@ use native.Mathlib.Omega.{arith}
 use borrow.Author.Needs.{needs}
 use Rattle.opening.proofs.HowMany.{few}
 use Rattle.fields.proofs.SignedFields.{read-back}
-use Rattle.heads.specs.Values.{identity}
+use Rattle.identities.specs.Identities.{identity}
 use Rattle.heads.proofs.header.header_with.Statement.{statement}
 use Rattle.heads.proofs.header.header_with.Tie as tie
 

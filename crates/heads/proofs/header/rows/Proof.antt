@@ -12,7 +12,8 @@ use Rattle.readings.specs.Ranges.{runNumber}
 use Rattle.records.specs.declared.RunHeader.{RunHeader}
 use Rattle.opening.specs.Opening.{letters}
 use Rattle.opening.proofs.HowMany.{few}
-use Rattle.heads.specs.Rows.{identityRows, readingRows}
+use Rattle.identities.specs.Identities.{identityRows}
+use Rattle.heads.specs.Rows.{readingRows}
 use Rattle.heads.proofs.header.rows.Statement.{statement}
 use Rattle.heads.proofs.header.rows.Tie as tie
 

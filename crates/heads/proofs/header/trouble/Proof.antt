@@ -14,7 +14,8 @@ use Rattle.fields.proofs.Tails.{enough}
 use Rattle.readings.specs.declared.headers.Version.{Version}
 use Rattle.readings.specs.declared.headers.Version.the-variants.{One}
 use Rattle.opening.specs.Opening.{letters}
-use Rattle.heads.specs.Values.{runHeaderSize, behind, header, spareByte}
+use Rattle.identities.specs.Identities.{behind}
+use Rattle.heads.specs.Values.{runHeaderSize, header, spareByte}
 use Rattle.heads.specs.Rows.{headerRows}
 use Rattle.heads.proofs.Places.{header-within}
 use Rattle.heads.proofs.header.trouble.Statement.{statement}

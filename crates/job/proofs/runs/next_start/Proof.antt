@@ -8,7 +8,8 @@ use Rattle.readings.specs.declared.headers.Version.{Version}
 use Rattle.readings.specs.declared.headers.Version.the-variants.{One}
 use Rattle.records.specs.declared.Counts.{Counts}
 use Rattle.opening.specs.Opening.{letters}
-use Rattle.heads.specs.Values.{behind, counts, runHeaderSize}
+use Rattle.identities.specs.Identities.{behind}
+use Rattle.heads.specs.Values.{counts, runHeaderSize}
 use Rattle.parts.specs.Values.{pointSize, segmentSize, weighingSize}
 use Rattle.fields.proofs.Tails.{enough}
 use Rattle.job.proofs.runs.next_start.Statement.{statement}

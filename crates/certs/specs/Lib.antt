@@ -1,4 +1,0 @@
--- Which certificates a run is worked with, and what they give the lines.
-pub mod Choosing
-pub mod Factor
-pub mod InRange

@@ -1,0 +1,2 @@
+-- Which certificates a run is worked with.
+pub mod Choosing

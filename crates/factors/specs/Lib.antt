@@ -1,0 +1,3 @@
+-- What the chosen certificates give the lines.
+pub mod Factor
+pub mod InRange

@@ -1,0 +1,2 @@
+-- The identities of a job file.
+pub mod Identities
