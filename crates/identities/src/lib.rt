@@ -15,6 +15,7 @@ ghost use Prim.Native.Nat.{_+_, _^_, _<_, _≤_};
 ghost use lib.ListN.{length};
 ghost use Rattle.fields.specs.Trouble.{checks};
 ghost use Rattle.records.specs.InRange.{makerLetters};
+ghost use Rattle.opening.specs.Opening.{letters};
 ghost use Rattle.identities.specs.Identities.{letterAt, identity, behind, identityRows};
 
 // The letter at a place of a record.
@@ -46,9 +47,10 @@ pub fn identity(t: &[u8], v: Version, at: usize) -> Identity
 
 // A record without the bytes of as many letters as `n` identities have: a field behind them has its place of version 1 there.
 pub fn behind(t: &[u8], v: Version, n: usize) -> &[u8]
+    requires { ⌜ letters v n ≤ length (now t) ⌝ }
     ensures { λ r. ⌜ now r ≡ behind v n (now (t .entry)) ⌝ }
 {
-    numbers::tail(t, opening::letters(v, n))
+    &t[opening::letters(v, n)..]
 }
 
 fn maker_letters(m: Maker) -> bool

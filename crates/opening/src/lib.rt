@@ -47,14 +47,21 @@ pub fn version(s: &[u8]) -> Version
     Version::One
 }
 
-// How many letters `n` identities have.
-pub fn letters(v: Version, n: usize) -> usize
-    ensures { λ r. ⌜ r ≡ letters v n ⌝ }
+// How many letters an identity has.
+fn each(v: Version) -> usize
+    ensures { λ r. ⌜ r ≡ letters v 1 ⌝ }
 {
     match v {
         Version::One => 0,
-        Version::Two => n,
+        Version::Two => 1,
     }
+}
+
+// How many letters `n` identities have. A product and no choice, so that a loop over certificates steps from one to the next.
+pub fn letters(v: Version, n: usize) -> usize
+    ensures { λ r. ⌜ r ≡ letters v n ⌝ }
+{
+    n * each(v)
 }
 
 // The first trouble met in the header.

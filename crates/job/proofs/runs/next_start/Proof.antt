@@ -1,9 +1,10 @@
 -- The counts are those of the header.
-use Prim.Native.Nat.{ℕ, _+_, _*_}
+use Prim.Native.Nat.{ℕ, _+_, _*_, _≤_}
 use mathlib.Core.Path.{_∙_, ap, ap₂}
 use mathlib.Core.List.{List}
 use native.Mathlib.Omega.{arith}
 use borrow.Author.Needs.{needs}
+use lib.ListN.{length}
 use Rattle.readings.specs.declared.headers.Version.{Version}
 use Rattle.readings.specs.declared.headers.Version.the-variants.{One}
 use Rattle.records.specs.declared.Counts.{Counts}
@@ -18,15 +19,19 @@ use Rattle.job.proofs.runs.next_start.Tie as tie
 tail-requires : tie.Need-tail-requires
 tail-requires c κs = search needs
 
+-- the header lies within the file
+whole : (c : tie.After-tail) → runHeaderSize (c .before .before .args .v) ≤ length (c .tail .result .now)
+whole c =
+    let start = c .before .before in
+    enough (start .args .s .now) (start .args .start) (runHeaderSize (start .args .v)) (c .tail .ensures) (start .pre .1)
+
 behind-requires : tie.Need-behind-requires
-behind-requires c κs = search needs
+behind-requires c κs = omega (arith, whole c)
 
 counts-requires : tie.Need-counts-requires
 counts-requires c κs =
-    let start = c .before .before .before in
-    let v = start .args .v in
-    let whole = enough (start .args .s .now) (start .args .start) (runHeaderSize v) (c .before .tail .ensures) (start .pre .1) in
-    enough _ (letters v 3) (runHeaderSize One) (c .behind .ensures) (omega (arith, whole))
+    let v = c .before .before .before .args .v in
+    enough _ (letters v 3) (runHeaderSize One) (c .behind .ensures) (omega (arith, whole (c .before)))
 
 size-requires : tie.Need-size-requires
 size-requires c κs = search needs
