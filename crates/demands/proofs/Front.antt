@@ -1,4 +1,4 @@
--- Nothing past the first 17,162 bytes of a file matters: for every call, and for what is printed.
+-- Nothing past the first 17,274 bytes of a file matters: for every call, and for what is printed.
 use Prim.Native.Nat.{ℕ, _≤_, _<_}
 use mathlib.Core.Path.{_≡_, refl, sym, _∙_, ap}
 use mathlib.Core.List.{List}
@@ -58,7 +58,7 @@ same-alike {s} {t} e =
     (λ room. ap (λ u. printing u room) e)
     (ap jobText e)
 
--- The first 17,162 bytes of a file decide
+-- The first 17,274 bytes of a file decide
 pub front-decides : (s : List ℕ) (m : ℕ) → longestJob < m → Alike (take m s) s
 front-decides s m long = by-trouble (jobTrouble s) refl
   where

@@ -1,5 +1,5 @@
 // Prints the job on standard input: its runs in file order, or its refusal.
-// Only the first bytes of a file decide: what stands past byte 17,162 changes no answer.
+// Only the first bytes of a file decide: what stands past byte 17,274 changes no answer.
 
 use libc::STDIN_FILENO;
 use libc::STDOUT_FILENO;
