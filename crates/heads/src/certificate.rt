@@ -21,13 +21,6 @@ ghost use Rattle.heads.specs.Rows.{goodFirst, goodLater, valueRows, cert
 // Its bytes without the letter.
 const SIZE: usize = 16;
 
-// How many bytes it has in a file of that version.
-fn size(v: Version) -> usize
-    ensures { λ r. ⌜ r ≡ certificateSize v ⌝ }
-{
-    SIZE + opening::letters(v, 1)
-}
-
 pub fn certificate(t: &[u8], v: Version) -> Certificate
     requires { ⌜ certificateSize v ≤ length (now t) ⌝ }
     ensures { λ r. ⌜ r ≡ certificate v (now (t .entry)) ⌝ }
@@ -108,7 +101,7 @@ pub fn trouble(s: &[u8], v: Version, at: usize) -> Trouble
     ensures { λ r. ⌜ r ≡ certificateTrouble (now (s .entry)) at ⌝ }
 {
     let t = numbers::tail(s, at);
-    if t.len() < size(v) {
+    if t.len() < identities::size(v, SIZE, 1) {
         return Trouble::At(Trouble::INCOMPLETE, s.len());
     }
     rows(v, certificate(t, v)).from(at)

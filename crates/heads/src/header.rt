@@ -41,7 +41,7 @@ const SIZE: usize = 64;
 pub fn size(v: Version) -> usize
     ensures { λ r. ⌜ r ≡ runHeaderSize v ⌝ }
 {
-    SIZE + opening::letters(v, 3)
+    identities::size(v, SIZE, 3)
 }
 
 fn site(t: &[u8]) -> Site

@@ -45,6 +45,14 @@ pub fn identity(t: &[u8], v: Version, at: usize) -> Identity
     }
 }
 
+// How many bytes a record has that has so many without the letters of its `n` identities.
+pub fn size(v: Version, without: usize, n: usize) -> usize
+    requires { ⌜ without + n < 2 ^ 64 ⌝ }
+    ensures { λ r. ⌜ r ≡ without + letters v n ⌝ }
+{
+    without + opening::letters(v, n)
+}
+
 // A record without the bytes of as many letters as `n` identities have: a field behind them has its place of version 1 there.
 pub fn behind(t: &[u8], v: Version, n: usize) -> &[u8]
     requires { ⌜ letters v n ≤ length (now t) ⌝ }

@@ -1,15 +1,15 @@
--- There are few letters, so the sum fits.
+-- There are no more letters than identities, so the sum fits.
 use native.Mathlib.Omega.{arith}
 use borrow.Author.Needs.{needs}
 use Rattle.opening.proofs.HowMany.{few}
-use Rattle.heads.proofs.header.size.Statement.{statement}
-use Rattle.heads.proofs.header.size.Tie as tie
+use Rattle.identities.proofs.size.Statement.{statement}
+use Rattle.identities.proofs.size.Tie as tie
 
 letters-requires : tie.Need-letters-requires
 letters-requires c κs = search needs
 
 add-result : tie.Need-add-result
-add-result c = omega (arith, c .letters .ensures, few (c .before .args .v) 3)
+add-result c = omega (arith, c .letters .ensures, few (c .before .args .v) (c .before .args .n), c .before .pre)
 
 returns : tie.Need-returns
 returns c = search needs
