@@ -14,6 +14,7 @@ use Rattle.findings.proofs.Accepting.{accepted-exactly}
 use Rattle.findings.proofs.Members.{listed-exactly}
 use Rattle.findings.proofs.Most.{at-most-for}
 use Rattle.demands.proofs.Sorted.{in-order, each-once, class-at}
+use Rattle.opening.specs.Opening.{versionOf}
 use Rattle.job.specs.Places.{runOf}
 use Rattle.job.proofs.ClearJobs.{clear-run}
 use Rattle.reduction.specs.Reducing.{worked, reduction, chosenIn, reducedRun}
@@ -27,13 +28,14 @@ use Rattle.demands.proofs.GoodParts.{good-job}
 use Rattle.demands.proofs.Succeeding.{Done, done}
 
 -- the list of run k's findings is what it is called
-findings-of : (s : List ℕ) (k : ℕ) → FindingsOf s k (findingsFor (runOf s k) (chosenIn s k))
+findings-of : (s : List ℕ) (k : ℕ) → FindingsOf s k (findingsFor (versionOf s) (runOf s k) (chosenIn s k))
 unfolding findingsFor
 findings-of s k =
+    let v = versionOf s in
     let r = runOf s k in
     let ch = chosenIn s k in
-    let l = linesFor r ch in
-    record { sorted = in-order r ch l; once = each-once r ch l; exactly = listed-exactly r ch l; class = class-at r ch l }
+    let l = linesFor v r ch in
+    record { sorted = in-order v r ch l; once = each-once v r ch l; exactly = listed-exactly v r ch l; class = class-at v r ch l }
 
 -- what stands at an index of a list stands there in the array that holds it
 held-at : (fs : List Finding) (i : ℕ) → i < length fs → getD (listed fs .list) i noFinding ≡ getD fs i noFinding
@@ -73,10 +75,10 @@ findings-by-rules c kept succeeds =
     k = d .index
 
     list : List Finding
-    list = findingsFor (runOf (c .job) k) (chosenIn (c .job) k)
+    list = findingsFor (versionOf (c .job)) (runOf (c .job) k) (chosenIn (c .job) k)
 
     few : length list ≤ mostFindings
-    few = at-most-for (runOf (c .job) k) (chosenIn (c .job) k) (clear-run (c .job) (good-job (c .job) (d .reducing .good)) k (d .reducing .run .inside))
+    few = at-most-for (versionOf (c .job)) (runOf (c .job) k) (chosenIn (c .job) k) (clear-run (c .job) (good-job (c .job) (d .reducing .good)) k (d .reducing .run .inside))
 
     written : (i : ℕ) → i < length list → bytesOfFinding (c .findingsOut) i ≡ findingBytes (getD list i noFinding)
     written i inside =

@@ -24,3 +24,4 @@ pub mod Versions
 pub mod OwnLetter
 pub mod Starred
 pub mod Printed
+pub mod MovedFactor

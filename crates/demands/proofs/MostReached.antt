@@ -2,6 +2,7 @@
 use mathlib.Core.Path.{_≡_, refl}
 use lib.IntN.{pos}
 use lib.ListN.{length, replicate, getD-replicate}
+use Rattle.readings.specs.declared.headers.Version.{Version}
 use Rattle.readings.specs.Ranges.{within, signedWithin, leastRunNumber, leastBarometer, rectangularShape, leastSide, leastBlankVolume, leastAcetoneDensity, greatestPointCount, greatestSegmentCount, greatestWeighingCount, leastSeconds, filterKind, noLetter}
 use Rattle.grids.specs.Grids.{nextOf, nextGrid}
 use Rattle.records.specs.declared.Identity.{Identity}
@@ -24,7 +25,8 @@ use Rattle.factors.specs.Factor.{factorOf, coefficientOf, diametersOf}
 use Rattle.grounds.specs.Grounds.{broken}
 use Rattle.site.specs.Site.{diameter, halfDiameter, undisturbed, minimumPoints, nextAllowed}
 use Rattle.conditions.specs.Conditions.{missing, moved, uneven, short, leaking, lineAgainst, ratioAgainst, steadyLimit, unsteady}
-use Rattle.rules.specs.Rules.{table, groundOf, placesOf}
+use Rattle.classes.specs.Classes.{placesOf}
+use Rattle.rules.specs.Rules.{table, groundOf}
 use Rattle.findings.specs.Listing.{partOf, ofKind, besideOf, brokenAt, ruleFindings, findingsTo, findings, linesFor, findingsFor, mostFindings}
 
 point : Point
@@ -102,10 +104,10 @@ full-in-range =
       balanced = refl;
     }
 
-full-findings : length (findingsFor fullRun noCertificates) ≡ mostFindings
+full-findings : (v : Version) → length (findingsFor v fullRun noCertificates) ≡ mostFindings
 unfolding fullRun point segment filter noCertificates findingsFor linesFor findings findingsTo ruleFindings brokenAt broken partOf besideOf table groundOf placesOf missing moved uneven diameter halfDiameter undisturbed minimumPoints nextOf nextGrid nextAllowed short leaking lineAgainst ratioAgainst steadyLimit unsteady ofKind holds apart factorOf coefficientOf diametersOf lines metering stack sampling time meteredVolume allowance leakLoss leakLosses correctedVolume dryVolume moisture wetWeight densityRoot velocity drawnGas isokinetic finalWeights tares catch deduction roundDiv unlessZero sumTo
-full-findings = refl
+full-findings v = refl
 
--- Some run in range has 98
-pub reached : (r : Run) × (ch : Chosen) × (RunOk r × (length (findingsFor r ch) ≡ mostFindings))
+-- Some run in range has 98, whatever the job's version
+pub reached : (r : Run) × (ch : Chosen) × (RunOk r × ((v : Version) → length (findingsFor v r ch) ≡ mostFindings))
 reached = (fullRun, noCertificates, (full-in-range, full-findings))

@@ -1,4 +1,4 @@
--- The worked job is answered as docs/RULES.md prints it: by computation, from its bytes to the bytes of its lines and its finding.
+-- The worked job is answered as docs/RULES.md prints it: by computation, from its bytes to the bytes of its lines and its findings.
 use mathlib.Core.Path.{refl}
 use Rattle.arith.specs.Root.{grown, floorRoot, nearestRoot}
 use Rattle.arith.specs.Rounding.{roundDiv, division}
@@ -13,12 +13,13 @@ use Rattle.lines.specs.Sheet.{lines, sheet}
 use Rattle.stack.specs.Stack.{dryWeight, wetWeight, stackPressure, stackTemperature, pointRoot, meanRoot, densityRoot, velocity, stack}
 use Rattle.choosing.specs.Choosing.{eligible, keep, chosen, chosenFor}
 use Rattle.grounds.specs.Comparing.{holds, deciding, apart}
-use Rattle.factors.specs.Factor.{factorMoved, factor, factorOf, coefficientOf, diametersOf}
+use Rattle.factors.specs.Factor.{factorMoved, lowerIfMoved, factor, factorOf, coefficientOf, diametersOf}
 use Rattle.grounds.specs.Grounds.{broken}
 use Rattle.findings.specs.Listing.{partOf, ofKind, besideOf, brokenAt, findingAt, ruleFindings, findingsTo, findings, accepted, listed, linesFor, findingsFor}
 use Rattle.site.specs.Site.{diameter, halfDiameter, undisturbed, minimumPoints, nextAllowed}
 use Rattle.conditions.specs.Conditions.{missing, moved, uneven, short, leaking, lineAgainst, ratioAgainst, steadyLimit, unsteady}
-use Rattle.rules.specs.Rules.{table, groundOf, placesOf, placeAt, classOf}
+use Rattle.classes.specs.Classes.{placesOf, placeAt, classOf}
+use Rattle.rules.specs.Rules.{table, groundOf}
 use Rattle.fields.specs.Numbers.{u16At, u32At, i16At}
 use Rattle.opening.specs.Opening.{versionOf}
 use Rattle.fields.specs.Trouble.{first, checks, recordTrouble, upTo}
@@ -37,7 +38,12 @@ use Rattle.handing.specs.Handing.{handed, success, answerOf, linesAfter, findin
 use Rattle.runs.specs.Outcomes.{outcome, countAnswer, numberAnswer}
 use Rattle.lines.specs.Starred.{workedLines}
 use Rattle.demands.specs.Starred.{PrintedJob}
+use Rattle.demands.specs.MovedFactor.{Kept, Voided}
 
-pub printed : PrintedJob
-unfolding grown floorRoot nearestRoot roundDiv division within signedWithin sameIdentity sumTo time meteredVolume allowance leakLoss leakLosses correctedVolume meanOrifice meterPressure meterTemperature dryVolume waterVapor moisture unlessZero addScaled nozzleArea drawnGas isokinetic deduction finalWeights tares catch concentration metering stack sampling lines sheet dryWeight wetWeight stackPressure stackTemperature pointRoot meanRoot densityRoot velocity eligible keep chosen chosenFor holds deciding apart factorMoved factor factorOf coefficientOf diametersOf broken brokenAt findingAt ruleFindings findingsTo findings accepted listed linesFor findingsFor missing moved uneven diameter halfDiameter undisturbed minimumPoints nextOf nextGrid nextAllowed short leaking lineAgainst ratioAgainst steadyLimit unsteady table groundOf partOf ofKind besideOf placesOf placeAt classOf u16At u32At i16At versionOf first checks upTo padded filledTo recordTrouble runAt runStart readJob anyTo partsTrouble runTrouble numberBefore jobTrouble worked reduction chosenIn reducedRun runNamed packed le spliced joined entryBytes sheetBytes findingBytes findingsBytes handed outcome success answerOf linesAfter findingsAfter countAnswer numberAnswer workedLines
-printed = record { answer = refl; lines = refl; findings = refl }
+-- the worked job, and the same with a meter that moved, in either version
+pub printed : PrintedJob × (Kept × Voided)
+unfolding grown floorRoot nearestRoot roundDiv division within signedWithin sameIdentity sumTo time meteredVolume allowance leakLoss leakLosses correctedVolume meanOrifice meterPressure meterTemperature dryVolume waterVapor moisture unlessZero addScaled nozzleArea drawnGas isokinetic deduction finalWeights tares catch concentration metering stack sampling lines sheet dryWeight wetWeight stackPressure stackTemperature pointRoot meanRoot densityRoot velocity eligible keep chosen chosenFor holds deciding apart factorMoved lowerIfMoved factor factorOf coefficientOf diametersOf broken brokenAt findingAt ruleFindings findingsTo findings accepted listed linesFor findingsFor missing moved uneven diameter halfDiameter undisturbed minimumPoints nextOf nextGrid nextAllowed short leaking lineAgainst ratioAgainst steadyLimit unsteady table groundOf partOf ofKind besideOf placesOf placeAt classOf u16At u32At i16At versionOf first checks upTo padded filledTo recordTrouble runAt runStart readJob anyTo partsTrouble runTrouble numberBefore jobTrouble worked reduction chosenIn reducedRun runNamed packed le spliced joined entryBytes sheetBytes findingBytes findingsBytes handed outcome success answerOf linesAfter findingsAfter countAnswer numberAnswer workedLines
+printed = (
+  record { answer = refl; lines = refl; findings = refl },
+  (record { answer = refl; lines = refl; findings = refl }, record { answer = refl; lines = refl; findings = refl }),
+)

@@ -10,12 +10,14 @@ use native.Mathlib.Omega.{arith}
 use lib.Dec.{eqb}
 use lib.ListN.{length, getD}
 use Rattle.grids.specs.Grids.{oneOf}
+use Rattle.readings.specs.declared.headers.Version.{Version}
 use Rattle.records.specs.declared.Counts.{Counts}
 use Rattle.records.specs.declared.Run.{Run}
 use Rattle.lines.specs.declared.Lines.{Lines}
 use Rattle.choosing.specs.declared.Chosen.{Chosen}
 use Rattle.findings.specs.declared.Finding.{Finding}
-use Rattle.rules.specs.Rules.{lastRule, placesOf, placeAt, classOf}
+use Rattle.classes.specs.Classes.{placesOf, placeAt, classOf}
+use Rattle.rules.specs.Rules.{lastRule}
 use Rattle.findings.specs.Listing.{brokenAt, findingAt, ruleFindings, findingsTo, findings, noFinding}
 use Rattle.demands.specs.Demands.{Precedes}
 use Rattle.findings.proofs.Members.{at-index, OfRule, OfRules, rule-members, all-members}
@@ -54,7 +56,7 @@ place-rising n rule i j l inside = go (oneOf (10 ∷ 11 ∷ 17 ∷ []) rule) ref
         let one : placesOf n rule ≡ 1 = whole-run (eqb rule 10) (eqb rule 11) (eqb rule 17) _ _ _ e in
         omega arith
 
-module _ (n : Counts) (isBroken : ℕ → ℕ → Bool) where
+module _ (v : Version) (n : Counts) (isBroken : ℕ → ℕ → Bool) where
   one-sorted : (t : Bool) (f : Finding) → Sorted (cond t (f ∷ []) [])
   one-sorted true f = ((λ g m. absurd (List·Memᴰ·not-nil m)), tt)
   one-sorted false f = tt
@@ -64,29 +66,29 @@ module _ (n : Counts) (isBroken : ℕ → ℕ → Bool) where
   one-is false f g m = absurd (List·Memᴰ·not-nil m)
 
   -- a rule's findings, by place
-  rule-sorted : (rule i : ℕ) → i ≤ placesOf n rule → Sorted (ruleFindings (isBroken rule) rule i)
+  rule-sorted : (rule i : ℕ) → i ≤ placesOf n rule → Sorted (ruleFindings v (isBroken rule) rule i)
   unfolding ruleFindings findingAt
   rule-sorted rule zero inside = tt
   rule-sorted rule (suc i) inside =
-      sorted-append (ruleFindings (isBroken rule) rule i) (cond (isBroken rule i) (findingAt rule i ∷ []) [])
+      sorted-append (ruleFindings v (isBroken rule) rule i) (cond (isBroken rule i) (findingAt v rule i ∷ []) [])
       (rule-sorted rule i (le-of-lt inside))
-      (one-sorted (isBroken rule i) (findingAt rule i))
+      (one-sorted (isBroken rule i) (findingAt v rule i))
       (λ f g mf mg.
-      let o : OfRule (isBroken rule) rule i f = rule-members (isBroken rule) rule i mf in
-      rw (o .is, one-is (isBroken rule i) (findingAt rule i) g mg)
+      let o : OfRule v (isBroken rule) rule i f = rule-members v (isBroken rule) rule i mf in
+      rw (o .is, one-is (isBroken rule i) (findingAt v rule i) g mg)
       (inr (refl, place-rising n rule (o .index) i (o .inside) inside)))
 
   -- all findings, by rule and then by place
-  all-sorted : (k : ℕ) → Sorted (findingsTo isBroken (placesOf n) k)
+  all-sorted : (k : ℕ) → Sorted (findingsTo v isBroken (placesOf n) k)
   unfolding findingsTo findingAt
   all-sorted zero = tt
   all-sorted (suc k) =
-      sorted-append (findingsTo isBroken (placesOf n) k) (ruleFindings (isBroken (k + 1)) (k + 1) (placesOf n (k + 1)))
+      sorted-append (findingsTo v isBroken (placesOf n) k) (ruleFindings v (isBroken (k + 1)) (k + 1) (placesOf n (k + 1)))
       (all-sorted k)
       (rule-sorted (k + 1) (placesOf n (k + 1)) (le-refl (placesOf n (k + 1))))
       (λ f g mf mg.
-      let o : OfRules isBroken (placesOf n) k f = all-members isBroken (placesOf n) k mf in
-      let p : OfRule (isBroken (k + 1)) (k + 1) (placesOf n (k + 1)) g = rule-members (isBroken (k + 1)) (k + 1) _ mg in
+      let o : OfRules v isBroken (placesOf n) k f = all-members v isBroken (placesOf n) k mf in
+      let p : OfRule v (isBroken (k + 1)) (k + 1) (placesOf n (k + 1)) g = rule-members v (isBroken (k + 1)) (k + 1) _ mg in
       let earlier : o .rule < k + 1 = omega (arith, o .last) in
       rw (o .of .is, p .is) (inl earlier))
 
@@ -98,30 +100,30 @@ sorted-at (f ∷ fs) s zero (suc j) l inside = s .0 (getD fs j noFinding) (at-in
 sorted-at (f ∷ fs) s (suc i) (suc j) l inside = sorted-at fs (s .1) i j (le-of-suc-le-suc l) (le-of-suc-le-suc inside)
 
 -- The list is in order: by rule, and then by place
-pub in-order : (r : Run) (ch : Chosen) (l : Lines) (i j : ℕ) → i < j → j < length (findings r ch l) → Precedes (getD (findings r ch l) i noFinding) (getD (findings r ch l) j noFinding)
+pub in-order : (v : Version) (r : Run) (ch : Chosen) (l : Lines) (i j : ℕ) → i < j → j < length (findings v r ch l) → Precedes (getD (findings v r ch l) i noFinding) (getD (findings v r ch l) j noFinding)
 unfolding findings
-in-order r ch l i j = sorted-at (findings r ch l) (all-sorted (r .header .counts) (brokenAt r ch l) lastRule) i j
+in-order v r ch l i j = sorted-at (findings v r ch l) (all-sorted v (r .header .counts) (brokenAt r ch l) lastRule) i j
 
 not-before-itself : (a b : Finding) → Precedes a b → a .rule ≡ b .rule → a .place ≡ b .place → ⊥
 not-before-itself a b (inl lower) rule place = omega arith
 not-before-itself a b (inr (same, lower)) rule place = omega arith
 
 -- Each finding occurs once
-pub each-once : (r : Run) (ch : Chosen) (l : Lines) (i j : ℕ) → i < length (findings r ch l) → j < length (findings r ch l) → getD (findings r ch l) i noFinding .rule ≡ getD (findings r ch l) j noFinding .rule → getD (findings r ch l) i noFinding .place ≡ getD (findings r ch l) j noFinding .place → i ≡ j
-each-once r ch l i j i-in j-in rule place = go (decLt i j) (decLt j i)
+pub each-once : (v : Version) (r : Run) (ch : Chosen) (l : Lines) (i j : ℕ) → i < length (findings v r ch l) → j < length (findings v r ch l) → getD (findings v r ch l) i noFinding .rule ≡ getD (findings v r ch l) j noFinding .rule → getD (findings v r ch l) i noFinding .place ≡ getD (findings v r ch l) j noFinding .place → i ≡ j
+each-once v r ch l i j i-in j-in rule place = go (decLt i j) (decLt j i)
   where
     at : ℕ → Finding
-    at k = getD (findings r ch l) k noFinding
+    at k = getD (findings v r ch l) k noFinding
 
     go : Dec (i < j) → Dec (j < i) → i ≡ j
-    go (yes lower) d = absurd (not-before-itself (at i) (at j) (in-order r ch l i j lower j-in) rule place)
-    go (no first) (yes higher) = absurd (not-before-itself (at j) (at i) (in-order r ch l j i higher i-in) (sym rule) (sym place))
+    go (yes lower) d = absurd (not-before-itself (at i) (at j) (in-order v r ch l i j lower j-in) rule place)
+    go (no first) (yes higher) = absurd (not-before-itself (at j) (at i) (in-order v r ch l j i higher i-in) (sym rule) (sym place))
     go (no first) (no second) = omega arith
 
 -- Each finding has its rule's class
-pub class-at : (r : Run) (ch : Chosen) (l : Lines) (i : ℕ) → i < length (findings r ch l) → getD (findings r ch l) i noFinding .class ≡ classOf (getD (findings r ch l) i noFinding .rule)
+pub class-at : (v : Version) (r : Run) (ch : Chosen) (l : Lines) (i : ℕ) → i < length (findings v r ch l) → getD (findings v r ch l) i noFinding .class ≡ classOf v (getD (findings v r ch l) i noFinding .rule)
 unfolding findings findingAt
-class-at r ch l i inside =
-    let o : OfRules (brokenAt r ch l) (placesOf (r .header .counts)) lastRule (getD (findings r ch l) i noFinding) =
-    all-members (brokenAt r ch l) (placesOf (r .header .counts)) lastRule (at-index (findings r ch l) i inside) in
+class-at v r ch l i inside =
+    let o : OfRules v (brokenAt r ch l) (placesOf (r .header .counts)) lastRule (getD (findings v r ch l) i noFinding) =
+    all-members v (brokenAt r ch l) (placesOf (r .header .counts)) lastRule (at-index (findings v r ch l) i inside) in
     rw (o .of .is)

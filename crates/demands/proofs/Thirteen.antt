@@ -2,6 +2,7 @@
 use Prim.Native.Nat.{ℕ, _≤_}
 use mathlib.Core.Path.{_≡_}
 use mathlib.Core.Bool.{false≢true}
+use Rattle.readings.specs.declared.headers.Version.{Version}
 use Rattle.records.specs.declared.Run.{Run}
 use Rattle.records.specs.InRange.{RunOk}
 use Rattle.values.specs.declared.Value.the-variants.{Known}
@@ -18,12 +19,12 @@ use Rattle.findings.specs.Listing.{brokenAt, findings, linesFor, HasFinding}
 use Rattle.findings.proofs.Members.{listed-exactly}
 
 -- For every run and certificates within the ranges, where line 3 is at least 1 and Y is known, line 6 is at least 1
-pub line-6-at-least-1 : (r : Run) (ch : Chosen) → RunOk r → ChosenOk ch → 1 ≤ linesFor r ch .metering .corrected → (y : ℕ) → factorOf ch ≡ Known y → (line6 : ℕ) × ((linesFor r ch .metering .dry ≡ Known line6) × (1 ≤ line6))
+pub line-6-at-least-1 : (v : Version) (r : Run) (ch : Chosen) → RunOk r → ChosenOk ch → 1 ≤ linesFor v r ch .metering .corrected → (y : ℕ) → factorOf v ch ≡ Known y → (line6 : ℕ) × ((linesFor v r ch .metering .dry ≡ Known line6) × (1 ≤ line6))
 unfolding linesFor lines
-line-6-at-least-1 r ch run certificates some y known =
-    rw known (dry-some r y run (factor-range ch certificates .known y known .0) (rw known at some))
+line-6-at-least-1 v r ch run certificates some y known =
+    rw known (dry-some r y run (factor-range v ch certificates .known y known .0) (rw known at some))
 
 -- No list of findings holds a 13
-pub no-finding-13 : (r : Run) (ch : Chosen) (l : Lines) (place : ℕ) → HasFinding (findings r ch l) 13 place → ⊥
+pub no-finding-13 : (v : Version) (r : Run) (ch : Chosen) (l : Lines) (place : ℕ) → HasFinding (findings v r ch l) 13 place → ⊥
 unfolding brokenAt broken table groundOf
-no-finding-13 r ch l place has = false≢true (listed-exactly r ch l 13 place .0 has .broken)
+no-finding-13 v r ch l place has = false≢true (listed-exactly v r ch l 13 place .0 has .broken)

@@ -1,4 +1,4 @@
--- Demand 3, two jobs: a run's answer hangs on its own record and its own certificates alone.
+-- Demand 3, two jobs of one version: a run's answer hangs on its own record and its own certificates alone.
 use Prim.Native.Nat.{ℕ, _<_}
 use mathlib.Core.Path.{_≡_, sym, _∙_, ap}
 use mathlib.Core.List.{List}
@@ -9,15 +9,14 @@ use Rattle.fields.specs.declared.trouble.Trouble.the-variants.{Clear}
 use Rattle.choosing.specs.Choosing.{Unique, Of}
 use Rattle.choosing.proofs.Choosing.{chosenFor-same-members}
 use Rattle.heads.specs.Values.{certificateOf}
-use Rattle.opening.specs.Opening.{certificateCountOf}
+use Rattle.opening.specs.Opening.{versionOf, certificateCountOf}
 use Rattle.job.specs.Places.{runOf}
 use Rattle.job.specs.Troubles.{jobTrouble}
 use Rattle.job.proofs.ClearJobs.{unique}
 use Rattle.reduction.specs.Reducing.{worked, reduction, reducedRun}
 use Rattle.handing.specs.Handing.{handed}
 use Rattle.runs.specs.Outcomes.{outcome}
-use Rattle.leverbonnet.specs.Calls.{Reduces}
-use Rattle.demands.specs.Demands.{SameRun}
+use Rattle.demands.specs.Demands.{SameRecords, SameRun, SameBytes}
 use Rattle.demands.proofs.NamedRun.{outcome-of-run}
 use Rattle.demands.proofs.SameOutcomes.{reduces-same}
 
@@ -33,13 +32,16 @@ read-unique s clear = record { once = once }
         order (no f) (yes l) = absurd (unique s clear j i l hi (sym (same .kind)) (sym (same .identity)) (sym day))
         order (no f) (no g) = omega (arith, f, g)
 
-module _ (s t : List ℕ) (run : ℕ) (same : SameRun s t run) where
+module _ (s t : List ℕ) (run : ℕ) (alike : SameRun s t run) where
+  same : SameRecords s t run
+  same = alike .records
+
   -- the same run reduced is the same, lines and findings
   same-reduced : reducedRun s (same .index) ≡ reducedRun t (same .other)
-  unfolding reducedRun reduction
+  unfolding same reducedRun reduction
   same-reduced =
       let chosen = chosenFor-same-members (runOf s (same .index) .header) (certificateOf s) (certificateCountOf s) (certificateOf t) (certificateCountOf t) (read-unique s (same .first)) (same .certificates) in
-      ap (worked (runOf s (same .index))) chosen ∙ rw (same .record′)
+      ap (worked (versionOf s) (runOf s (same .index))) chosen ∙ rw (same .record′, alike .version)
 
   -- and so is the outcome for outputs of the same lengths
   same-outcome : (lines findings : ℕ) → outcome s run lines findings ≡ outcome t run lines findings
@@ -48,6 +50,7 @@ module _ (s t : List ℕ) (run : ℕ) (same : SameRun s t run) where
       ∙ ap (λ r. handed r lines findings) same-reduced
       ∙ sym (outcome-of-run t run (same .second) (same .other) lines findings (same .within) (ap (λ r. r .header .number) (sym (same .record′)) ∙ same .number))
 
-  -- Two jobs: what the call answers and writes for one, it answers and writes for the other, byte for byte
-  pub same-bytes : {linesIn findingsIn linesOut findingsOut : List ℕ} {r : ℕ} → Reduces s run linesIn findingsIn linesOut findingsOut r → Reduces t run linesIn findingsIn linesOut findingsOut r
-  same-bytes {linesIn} {findingsIn} done = reduces-same s t (same-outcome (length linesIn) (length findingsIn)) done
+-- Two jobs: what the call answers and writes for one, it answers and writes for the other, byte for byte
+pub same-bytes : SameBytes SameRun
+same-bytes s t run alike linesIn findingsIn linesOut findingsOut r done =
+    reduces-same s t (same-outcome s t run alike (length linesIn) (length findingsIn)) done

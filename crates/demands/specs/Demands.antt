@@ -7,11 +7,11 @@ use mathlib.Core.Logic.{_⊎_, _↔_}
 use lib.ListN.{length, take, drop, getD}
 use Rattle.fields.specs.declared.trouble.Trouble.the-variants.{Clear}
 use Rattle.choosing.specs.Choosing.{SameForRun}
-use Rattle.rules.specs.Rules.{fault, classOf}
+use Rattle.classes.specs.Classes.{fault, classOf}
 use Rattle.findings.specs.declared.Finding.{Finding}
 use Rattle.findings.specs.Listing.{mostFindings, noFinding, linesFor, Breaks, HasFinding}
 use Rattle.heads.specs.Values.{certificateOf}
-use Rattle.opening.specs.Opening.{certificateCountOf, runCountOf}
+use Rattle.opening.specs.Opening.{versionOf, certificateCountOf, runCountOf}
 use Rattle.job.specs.Places.{runOf}
 use Rattle.job.specs.Troubles.{jobTrouble}
 use Rattle.reduction.specs.Reducing.{chosenIn, reducedRun}
@@ -107,12 +107,12 @@ pub record Demand2 (c : Call) : Type 0 where
   pub index : ℕ
   -- exactly one run of the job has the asked number
   pub run : OnlyRun (c .job) (c .run) index
-  -- the bytes of line i are its i-th equation's value, or say that it is absent
+  -- the bytes of line i are its i-th equation's value by the job's version, or say that it is absent
   pub lines :
       (i : ℕ)
       → 1 ≤ i
       → i ≤ lineCount
-      → bytesOfLine (c .linesOut) i ≡ entryBytes (equation i (runOf (c .job) index) (chosenIn (c .job) index))
+      → bytesOfLine (c .linesOut) i ≡ entryBytes (equation i (versionOf (c .job)) (runOf (c .job) index) (chosenIn (c .job) index))
 
 -- Demand 3: of a call that succeeds, the findings are the rules that the run breaks
 
@@ -124,7 +124,7 @@ bytesOfFinding bytes i = take findingSize (drop (findingSize * i) bytes)
 abbrev pub Precedes : Finding → Finding → Type 0
 Precedes a b = (a .rule < b .rule) ⊎ ((a .rule ≡ b .rule) × (a .place < b .place))
 
--- a list holds the findings of a run: in order, each once, exactly those rules that it breaks, and each with its class
+-- a list holds the findings of a run: in order, each once, exactly those rules that it breaks, and each with its class by the job's version
 pub record FindingsOf (s : List ℕ) (k : ℕ) (list : List Finding) : Type 0 where
   pub sorted : (i j : ℕ) → i < j → j < length list → Precedes (getD list i noFinding) (getD list j noFinding)
   pub once :
@@ -136,8 +136,8 @@ pub record FindingsOf (s : List ℕ) (k : ℕ) (list : List Finding) : Type 0 wh
       → i ≡ j
   pub exactly :
       (rule place : ℕ)
-      → HasFinding list rule place ↔ Breaks (runOf s k) (chosenIn s k) (linesFor (runOf s k) (chosenIn s k)) rule place
-  pub class : (i : ℕ) → i < length list → getD list i noFinding .class ≡ classOf (getD list i noFinding .rule)
+      → HasFinding list rule place ↔ Breaks (runOf s k) (chosenIn s k) (linesFor (versionOf s) (runOf s k) (chosenIn s k)) rule place
+  pub class : (i : ℕ) → i < length list → getD list i noFinding .class ≡ classOf (versionOf s) (getD list i noFinding .rule)
 
 pub record Demand3 (c : Call) : Type 0 where
   pub index : ℕ
@@ -160,7 +160,7 @@ pub record Demand3 (c : Call) : Type 0 where
 
 -- Beside it: two jobs that are both read hold the same record for a run of that number, and the same certificates for the
 -- meter, pitot tube and nozzle which it names
-pub record SameRun (s t : List ℕ) (run : ℕ) : Type 0 where
+pub record SameRecords (s t : List ℕ) (run : ℕ) : Type 0 where
   pub first : jobTrouble s ≡ Clear
   pub second : jobTrouble t ≡ Clear
   pub index : ℕ
@@ -170,3 +170,17 @@ pub record SameRun (s t : List ℕ) (run : ℕ) : Type 0 where
   pub within : other < runCountOf t
   pub record′ : runOf s index ≡ runOf t other
   pub certificates : SameForRun (runOf s index .header) (certificateOf s) (certificateCountOf s) (certificateOf t) (certificateCountOf t)
+
+-- and they are of the same version
+pub record SameRun (s t : List ℕ) (run : ℕ) : Type 0 where
+  pub version : versionOf s ≡ versionOf t
+  pub records : SameRecords s t run
+
+-- what the call answers and writes for one of two such jobs, it answers and writes for the other, byte for byte
+abbrev pub SameBytes : (List ℕ → List ℕ → ℕ → Type 0) → Type 0
+SameBytes Such =
+    (s t : List ℕ) (run : ℕ)
+    → Such s t run
+    → (linesIn findingsIn linesOut findingsOut : List ℕ) (r : ℕ)
+    → Reduces s run linesIn findingsIn linesOut findingsOut r
+    → Reduces t run linesIn findingsIn linesOut findingsOut r

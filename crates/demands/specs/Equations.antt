@@ -3,6 +3,7 @@ use Prim.Native.Nat.{ℕ, _-_}
 use mathlib.Core.List.{List, [], _∷_}
 use lib.IntN.{ℤ}
 use lib.ListN.{getD}
+use Rattle.readings.specs.declared.headers.Version.{Version}
 use Rattle.records.specs.declared.Run.{Run}
 use Rattle.records.specs.declared.Point.{Point}
 use Rattle.values.specs.declared.Ratio.{Ratio}
@@ -17,9 +18,9 @@ use Rattle.lines.specs.Sheet.{always, ifKnown, noEntry}
 use Rattle.choosing.specs.declared.Chosen.{Chosen}
 use Rattle.factors.specs.Factor.{factorOf, coefficientOf, diametersOf}
 
--- Lines 1 to 20 of a run, from its own readings and from the certificates chosen for it
-unfoldable pub equations : Run → Chosen → List Entry
-equations r ch =
+-- Lines 1 to 20 of a run, from its own readings and from the certificates chosen for it, in a job of that version
+unfoldable pub equations : Version → Run → Chosen → List Entry
+equations v r ch =
     let points : List Point = r .points in
     let n : ℕ = r .header .counts .points in
     let l1 : ℕ = time points n in
@@ -27,7 +28,7 @@ equations r ch =
     let l3 : ℕ = correctedVolume l1 l2 (r .segments) (r .header .counts .segments) in
     let l4 : ℕ = meterPressure (r .header .pb) (meanOrifice points n) in
     let l5 : ℕ = meterTemperature points n in
-    let l6 : Value = dryVolume l3 (factorOf ch) l4 l5 in
+    let l6 : Value = dryVolume l3 (factorOf v ch) l4 l5 in
     let l7 : ℕ = waterVapor (r .header .water) in
     let l8 : Value = moisture l6 l7 in
     let l9 : ℕ = dryWeight (r .header .co2) (r .header .o2) in
@@ -65,5 +66,5 @@ equations r ch =
     ∷ []
 
 -- the i-th of them, counted from 1
-abbrev pub equation : ℕ → Run → Chosen → Entry
-equation i r ch = getD (equations r ch) (i - 1) noEntry
+abbrev pub equation : ℕ → Version → Run → Chosen → Entry
+equation i v r ch = getD (equations v r ch) (i - 1) noEntry

@@ -9,3 +9,4 @@ pub mod Front
 pub mod Versions
 pub mod OwnLetter
 pub mod Starred
+pub mod MovedFactor

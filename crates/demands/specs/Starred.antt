@@ -1,5 +1,5 @@
 -- The starred values of docs/RULES.md, in one list, and beside them the answer to its worked job.
-use Prim.Native.Nat.{ℕ}
+use Prim.Native.Nat.{ℕ, _*_}
 use mathlib.Core.Path.{_≡_}
 use mathlib.Core.List.{List, [], _∷_, _++_, map}
 use lib.ListN.{replicate}
@@ -59,8 +59,12 @@ abbrev pub presentBytes : List ℕ → List ℕ
 presentBytes [] = []
 presentBytes (v ∷ vs) = (1 ∷ le 8 v) ++ presentBytes vs
 
--- The worked job, of version 1, run 7, into buffers that just suffice: accepted with one finding, the twenty lines, and the note of rule 11 at segment 1
-pub record PrintedJob : Type 0 where
-  pub answer : packed (answerOf (outcome (workedJob One) 7 sheetSize findingSize)) ≡ 65537
-  pub lines : linesAfter (outcome (workedJob One) 7 sheetSize findingSize) (replicate sheetSize 0) ≡ presentBytes (workedLines .expected)
-  pub findings : findingsAfter (outcome (workedJob One) 7 sheetSize findingSize) (replicate findingSize 0) ≡ 11 ∷ 2 ∷ 1 ∷ 0 ∷ []
+-- run 7 of a file into buffers that just suffice for so many findings: its answer, its lines, all of them present, and its findings as bytes
+pub record PrintedAs (file : List ℕ) (many result : ℕ) (values bytes : List ℕ) : Type 0 where
+  pub answer : packed (answerOf (outcome file 7 sheetSize (findingSize * many))) ≡ result
+  pub lines : linesAfter (outcome file 7 sheetSize (findingSize * many)) (replicate sheetSize 0) ≡ presentBytes values
+  pub findings : findingsAfter (outcome file 7 sheetSize (findingSize * many)) (replicate (findingSize * many) 0) ≡ bytes
+
+-- The worked job, of version 1: accepted with one finding, the twenty lines, and the note of rule 11 at segment 1
+abbrev pub PrintedJob : Type 0
+PrintedJob = PrintedAs (workedJob One) 1 65537 (workedLines .expected) (11 ∷ 2 ∷ 1 ∷ 0 ∷ [])

@@ -5,6 +5,8 @@ use mathlib.Core.Bool.{Bool, true, false, cond}
 use native.Mathlib.Omega.{arith}
 use Rattle.readings.specs.Ranges.{within, leastFactor, greatestFactor, leastCoefficient, greatestCoefficient}
 use Rattle.readings.proofs.Ranges.{within-least, within-greatest}
+use Rattle.readings.specs.declared.headers.Version.{Version}
+use Rattle.readings.specs.declared.headers.Version.the-variants.{One, Two}
 use Rattle.records.specs.declared.Certificate.{Certificate}
 use Rattle.records.specs.declared.Identity.{Identity}
 use Rattle.records.specs.declared.RunHeader.{RunHeader}
@@ -17,7 +19,7 @@ use Rattle.choosing.specs.declared.Lookup.the-variants.{Found, Nothing}
 use Rattle.choosing.specs.declared.Chosen.{Chosen}
 use Rattle.choosing.specs.Choosing.{chosen, chosenFor, Nearest}
 use Rattle.grounds.specs.Comparing.{holds}
-use Rattle.factors.specs.Factor.{factorMoved, factor, factorFrom, factorOf, coefficientFrom, coefficientOf, diametersFrom, diametersOf}
+use Rattle.factors.specs.Factor.{factorMoved, lowerIfMoved, factor, factorFrom, factorOf, coefficientFrom, coefficientOf, diametersFrom, diametersOf}
 use Rattle.factors.specs.InRange.{CertificatesOk, ChosenOk}
 use Rattle.choosing.proofs.Choosing.{chosen-found}
 
@@ -48,24 +50,29 @@ chosen-in-range f n h ok =
     }
 
 -- Y is one of the two factors
-factor-within : (least greatest before after : ℕ) → Within least greatest before → Within least greatest after → Within least greatest (factor before after)
-unfolding factor
-factor-within least greatest before after (b, b′) (a, a′) = go (holds (factorMoved before after))
+lower-within : (least greatest before after : ℕ) → Within least greatest before → Within least greatest after → Within least greatest (lowerIfMoved before after)
+unfolding lowerIfMoved
+lower-within least greatest before after (b, b′) (a, a′) = go (holds (factorMoved before after))
   where
     go : (t : Bool) → (least ≤ cond t (min before after) before) × (cond t (min before after) before ≤ greatest)
     go true = (omega arith, omega arith)
     go false = (b, b′)
 
-factor-from : (b a : Lookup) → ((c : Certificate) → b ≡ Found c → within leastFactor greatestFactor (c .first) ≡ true) → ((c : Certificate) → a ≡ Found c → within leastFactor greatestFactor (c .first) ≡ true) → Between leastFactor greatestFactor (factorFrom b a)
-factor-from Nothing a hb ha = missing-between
-factor-from (Found b) Nothing hb ha = between (in-range _ _ _ (hb b refl))
-factor-from (Found b) (Found a) hb ha =
-    between (factor-within _ _ _ _ (in-range _ _ _ (hb b refl)) (in-range _ _ _ (ha a refl)))
+factor-within : (v : Version) (least greatest before after : ℕ) → Within least greatest before → Within least greatest after → Within least greatest (factor v before after)
+unfolding factor
+factor-within One least greatest before after own other = lower-within least greatest before after own other
+factor-within Two least greatest before after own other = own
+
+factor-from : (v : Version) (b a : Lookup) → ((c : Certificate) → b ≡ Found c → within leastFactor greatestFactor (c .first) ≡ true) → ((c : Certificate) → a ≡ Found c → within leastFactor greatestFactor (c .first) ≡ true) → Between leastFactor greatestFactor (factorFrom v b a)
+factor-from v Nothing a hb ha = missing-between
+factor-from v (Found b) Nothing hb ha = between (in-range _ _ _ (hb b refl))
+factor-from v (Found b) (Found a) hb ha =
+    between (factor-within v _ _ _ _ (in-range _ _ _ (hb b refl)) (in-range _ _ _ (ha a refl)))
 
 -- Y lies in the range of factors
-pub factor-range : (ch : Chosen) → ChosenOk ch → Between leastFactor greatestFactor (factorOf ch)
+pub factor-range : (v : Version) (ch : Chosen) → ChosenOk ch → Between leastFactor greatestFactor (factorOf v ch)
 unfolding factorOf
-factor-range ch ok = factor-from (ch .before) (ch .after) (ok .before) (ok .after)
+factor-range v ch ok = factor-from v (ch .before) (ch .after) (ok .before) (ok .after)
 
 coefficient-from : (least greatest : ℕ) (l : Lookup) → ((c : Certificate) → l ≡ Found c → within least greatest (c .first) ≡ true) → Between least greatest (coefficientFrom l)
 coefficient-from least greatest Nothing h = missing-between

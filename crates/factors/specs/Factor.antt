@@ -1,6 +1,8 @@
 -- What the chosen certificates give the lines; of the factor Y, docs/RULES.md, Choosing certificates.
 use Prim.Native.Nat.{ℕ, _*_, min}
 use mathlib.Core.Bool.{cond}
+use Rattle.readings.specs.declared.headers.Version.{Version}
+use Rattle.readings.specs.declared.headers.Version.the-variants.{One, Two}
 use Rattle.values.specs.declared.Value.{Value}
 use Rattle.values.specs.declared.Value.the-variants.{Known, Missing}
 use Rattle.values.specs.declared.Diameters.{Diameters}
@@ -16,19 +18,24 @@ use Rattle.grounds.specs.Comparing.{holds, compare, apart}
 unfoldable pub factorMoved : ℕ → ℕ → Comparison
 factorMoved before after = compare (20 * apart before after) Above before
 
--- Y from a before factor and an after factor: the lower of the two where the factor moved, otherwise the before factor
-unfoldable pub factor : ℕ → ℕ → ℕ
-factor before after = cond (holds (factorMoved before after)) (min before after) before
+-- the lower of the two where the factor moved, otherwise the before factor
+unfoldable pub lowerIfMoved : ℕ → ℕ → ℕ
+lowerIfMoved before after = cond (holds (factorMoved before after)) (min before after) before
+
+-- Y from a before factor and an after factor, by the job's version: in version 2 always the before factor
+unfoldable pub factor : Version → ℕ → ℕ → ℕ
+factor One before after = lowerIfMoved before after
+factor Two before after = before
 
 -- Y from what was found
-abbrev pub factorFrom : Lookup → Lookup → Value
-factorFrom Nothing after = Missing
-factorFrom (Found b) Nothing = Known (b .first)
-factorFrom (Found b) (Found a) = Known (factor (b .first) (a .first))
+abbrev pub factorFrom : Version → Lookup → Lookup → Value
+factorFrom v Nothing after = Missing
+factorFrom v (Found b) Nothing = Known (b .first)
+factorFrom v (Found b) (Found a) = Known (factor v (b .first) (a .first))
 
 -- The factor Y: missing without a before certificate
-unfoldable pub factorOf : Chosen → Value
-factorOf ch = factorFrom (ch .before) (ch .after)
+unfoldable pub factorOf : Version → Chosen → Value
+factorOf v ch = factorFrom v (ch .before) (ch .after)
 
 abbrev pub coefficientFrom : Lookup → Value
 coefficientFrom Nothing = Missing

@@ -5,10 +5,11 @@ use choosing::Lookup;
 use grounds::comparison::Comparison;
 use grounds::comparison::Way;
 use grounds::comparison::apart;
+use readings::headers::Version;
 use values::Diameters;
 use values::Value;
 ghost use mathlib.Core.Path.{_≡_};
-ghost use Rattle.factors.specs.Factor.{factorMoved, factor, factorOf, coefficientOf, diametersOf};
+ghost use Rattle.factors.specs.Factor.{factorMoved, lowerIfMoved, factor, factorOf, coefficientOf, diametersOf};
 
 // 5 percent of the before factor: a difference is more where as many times it is more than the factor.
 const PARTS: u64 = 20;
@@ -24,9 +25,9 @@ pub fn factor_moved(before: u16, after: u16) -> Comparison
     }
 }
 
-// Y from a before factor and an after factor: the lower of the two where the factor moved, otherwise the before factor.
-pub fn factor(before: u16, after: u16) -> u16
-    ensures { λ r. ⌜ r ≡ factor before after ⌝ }
+// The lower of the two where the factor moved, otherwise the before factor.
+fn lower_if_moved(before: u16, after: u16) -> u16
+    ensures { λ r. ⌜ r ≡ lowerIfMoved before after ⌝ }
 {
     if !factor_moved(before, after).holds() {
         return before;
@@ -34,9 +35,19 @@ pub fn factor(before: u16, after: u16) -> u16
     if after < before { after } else { before }
 }
 
+// Y from a before factor and an after factor, by the job's version: in version 2 always the before factor.
+pub fn factor(v: Version, before: u16, after: u16) -> u16
+    ensures { λ r. ⌜ r ≡ factor v before after ⌝ }
+{
+    match v {
+        Version::One => lower_if_moved(before, after),
+        Version::Two => before,
+    }
+}
+
 // The factor Y: missing without a before certificate, and the before factor without an after one.
-pub fn factor_of(chosen: Chosen) -> Value
-    ensures { λ r. ⌜ r ≡ factorOf chosen ⌝ }
+pub fn factor_of(v: Version, chosen: Chosen) -> Value
+    ensures { λ r. ⌜ r ≡ factorOf v chosen ⌝ }
 {
     let before = chosen.before;
     let Lookup::Found(b) = before else {
@@ -46,7 +57,7 @@ pub fn factor_of(chosen: Chosen) -> Value
     let Lookup::Found(a) = after else {
         return Value::Known(b.first as u64);
     };
-    Value::Known(factor(b.first, a.first) as u64)
+    Value::Known(factor(v, b.first, a.first) as u64)
 }
 
 // Cp of the pitot tube's certificate.

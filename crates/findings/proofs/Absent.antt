@@ -11,22 +11,21 @@ use Rattle.stack.proofs.Cases.{wet-missing, density-missing, velocity-no-densit
 use Rattle.sampling.specs.Sampling.{sampling}
 use Rattle.sampling.proofs.Cases.{isokinetic-no-velocity, isokinetic-still}
 use Rattle.lines.specs.Sheet.{lines}
-use Rattle.choosing.specs.declared.Chosen.{Chosen}
-use Rattle.findings.specs.Listing.{linesFor}
+use Rattle.findings.specs.Listing.{Worked}
 
-module _ (r : Run) (ch : Chosen) (l : Lines) (is : l ≡ linesFor r ch) where
+module _ (r : Run) (l : Lines) (w : Worked r l) where
   pub no-volume : l .metering .corrected ≡ 0 → l .metering .dry ≡ Missing
-  unfolding linesFor lines metering
-  no-volume e = rw is (dry-zero _ _ _ (rw is at e))
+  unfolding lines metering
+  no-volume e = rw (w .is) (dry-zero _ _ _ (rw (w .is) at e))
 
   pub no-moisture : l .metering .dry ≡ Missing → l .stack .velocity ≡ Missing
-  unfolding linesFor lines metering stack
-  no-moisture e = rw is (velocity-no-density _ _ (density-missing _ _ (wet-missing _ (moisture-missing _ (rw is at e)))))
+  unfolding lines metering stack
+  no-moisture e = rw (w .is) (velocity-no-density _ _ (density-missing _ _ (wet-missing _ (moisture-missing _ (rw (w .is) at e)))))
 
   pub no-velocity : l .stack .velocity ≡ Missing → l .sampling .isokinetic ≡ Unworked
-  unfolding linesFor lines sampling
-  no-velocity e = rw is (isokinetic-no-velocity _ _ _ (rw is at e))
+  unfolding lines sampling
+  no-velocity e = rw (w .is) (isokinetic-no-velocity _ _ _ (rw (w .is) at e))
 
   pub no-flow : l .stack .velocity ≡ Known 0 → l .sampling .isokinetic ≡ Unworked
-  unfolding linesFor lines sampling
-  no-flow e = rw is (isokinetic-still _ _ _ (rw is at e) refl)
+  unfolding lines sampling
+  no-flow e = rw (w .is) (isokinetic-still _ _ _ (rw (w .is) at e) refl)

@@ -10,7 +10,7 @@ use borrow.Author.Tests.{eq-eqb, ne-eqb}
 use lib.Dec.{eqb}
 use lib.ListN.{length, getD, take}
 use lib.Seq.{take-length}
-use Rattle.rules.specs.Rules.{fault}
+use Rattle.classes.specs.Classes.{fault}
 use Rattle.findings.specs.declared.Finding.{Finding}
 use Rattle.findings.specs.Listing.{accepted, noFinding}
 

@@ -9,6 +9,7 @@ use native.Mathlib.Numerals.{add-one}
 use native.Mathlib.Omega.{arith}
 use lib.ListN.{length, set, length-append}
 use Rattle.arrays.proofs.Filled.{Filled, filled-more}
+use Rattle.readings.specs.declared.headers.Version.{Version}
 use Rattle.rules.specs.Rules.{lastRule}
 use Rattle.findings.specs.declared.Finding.{Finding}
 use Rattle.findings.specs.declared.Findings.{Findings}
@@ -32,69 +33,69 @@ rising f up i (suc j) l = go (eq-or-lt-of-le l) (λ (h : i ≤ j). rising f up i
     go (inl e) below = rw e (le-refl (f (suc j)))
     go (inr lt) below = le-trans (below (le-of-suc-le-suc lt)) (up j)
 
-module _ (isBroken : ℕ → ℕ → Bool) (places : ℕ → ℕ) where
+module _ (v : Version) (isBroken : ℕ → ℕ → Bool) (places : ℕ → ℕ) where
   -- one place more
-  pub found-more : (rule i : ℕ) {test : Bool} → test ≡ isBroken rule i → test ≡ true → ruleFindings (isBroken rule) rule (i + 1) ≡ ruleFindings (isBroken rule) rule i ++ (findingAt rule i ∷ [])
+  pub found-more : (rule i : ℕ) {test : Bool} → test ≡ isBroken rule i → test ≡ true → ruleFindings v (isBroken rule) rule (i + 1) ≡ ruleFindings v (isBroken rule) rule i ++ (findingAt v rule i ∷ [])
   unfolding ruleFindings
   found-more rule i t e = rw (add-one, ← t, e)
 
-  pub found-passed : (rule i : ℕ) {test : Bool} → test ≡ isBroken rule i → test ≡ false → ruleFindings (isBroken rule) rule (i + 1) ≡ ruleFindings (isBroken rule) rule i
+  pub found-passed : (rule i : ℕ) {test : Bool} → test ≡ isBroken rule i → test ≡ false → ruleFindings v (isBroken rule) rule (i + 1) ≡ ruleFindings v (isBroken rule) rule i
   unfolding ruleFindings
   found-passed rule i t e = rw (add-one, ← t, e) (append-nil _)
 
-  pub found-none : (fs : List Finding) (rule : ℕ) → fs ++ ruleFindings (isBroken rule) rule 0 ≡ fs
+  pub found-none : (fs : List Finding) (rule : ℕ) → fs ++ ruleFindings v (isBroken rule) rule 0 ≡ fs
   unfolding ruleFindings
   found-none fs rule = append-nil fs
 
   -- one rule more
-  pub rule-more : (k : ℕ) → findingsTo isBroken places (k + 1) ≡ findingsTo isBroken places k ++ ruleFindings (isBroken (k + 1)) (k + 1) (places (k + 1))
+  pub rule-more : (k : ℕ) → findingsTo v isBroken places (k + 1) ≡ findingsTo v isBroken places k ++ ruleFindings v (isBroken (k + 1)) (k + 1) (places (k + 1))
   unfolding findingsTo
-  rule-more k = ap (λ (n : ℕ). findingsTo isBroken places n) (add-one k)
+  rule-more k = ap (λ (n : ℕ). findingsTo v isBroken places n) (add-one k)
 
-  pub rule-none : findingsTo isBroken places 0 ≡ []
+  pub rule-none : findingsTo v isBroken places 0 ≡ []
   unfolding findingsTo
   rule-none = refl
 
-  rule-rising : (rule i j : ℕ) → i ≤ j → length (ruleFindings (isBroken rule) rule i) ≤ length (ruleFindings (isBroken rule) rule j)
+  rule-rising : (rule i j : ℕ) → i ≤ j → length (ruleFindings v (isBroken rule) rule i) ≤ length (ruleFindings v (isBroken rule) rule j)
   unfolding ruleFindings
   rule-rising rule =
-      rising (λ i. length (ruleFindings (isBroken rule) rule i))
-      (λ i. omega (arith, length-append (ruleFindings (isBroken rule) rule i) (cond (isBroken rule i) (findingAt rule i ∷ []) [])))
+      rising (λ i. length (ruleFindings v (isBroken rule) rule i))
+      (λ i. omega (arith, length-append (ruleFindings v (isBroken rule) rule i) (cond (isBroken rule i) (findingAt v rule i ∷ []) [])))
 
-  rules-rising : (k m : ℕ) → k ≤ m → length (findingsTo isBroken places k) ≤ length (findingsTo isBroken places m)
+  rules-rising : (k m : ℕ) → k ≤ m → length (findingsTo v isBroken places k) ≤ length (findingsTo v isBroken places m)
   unfolding findingsTo
   rules-rising =
-      rising (λ k. length (findingsTo isBroken places k))
-      (λ k. omega (arith, length-append (findingsTo isBroken places k) (ruleFindings (isBroken (k + 1)) (k + 1) (places (k + 1)))))
+      rising (λ k. length (findingsTo v isBroken places k))
+      (λ k. omega (arith, length-append (findingsTo v isBroken places k) (ruleFindings v (isBroken (k + 1)) (k + 1) (places (k + 1)))))
 
   -- where a rule is broken, the list is not yet as long as it will be
-  pub room : (k i : ℕ) {test : Bool} → k < lastRule → i < places (k + 1) → test ≡ isBroken (k + 1) i → test ≡ true → length (findingsTo isBroken places k ++ ruleFindings (isBroken (k + 1)) (k + 1) i) < length (findingsTo isBroken places lastRule)
+  pub room : (k i : ℕ) {test : Bool} → k < lastRule → i < places (k + 1) → test ≡ isBroken (k + 1) i → test ≡ true → length (findingsTo v isBroken places k ++ ruleFindings v (isBroken (k + 1)) (k + 1) i) < length (findingsTo v isBroken places lastRule)
   room k i rule-in place-in t e =
-      let fs : List Finding = findingsTo isBroken places k in
-      let now : List Finding = ruleFindings (isBroken (k + 1)) (k + 1) i in
-      let all : List Finding = ruleFindings (isBroken (k + 1)) (k + 1) (places (k + 1)) in
-      let more : length (ruleFindings (isBroken (k + 1)) (k + 1) (i + 1)) ≡ length now + 1 =
-      ap length (found-more (k + 1) i t e) ∙ length-append now (findingAt (k + 1) i ∷ []) in
+      let fs : List Finding = findingsTo v isBroken places k in
+      let now : List Finding = ruleFindings v (isBroken (k + 1)) (k + 1) i in
+      let all : List Finding = ruleFindings v (isBroken (k + 1)) (k + 1) (places (k + 1)) in
+      let more : length (ruleFindings v (isBroken (k + 1)) (k + 1) (i + 1)) ≡ length now + 1 =
+      ap length (found-more (k + 1) i t e) ∙ length-append now (findingAt v (k + 1) i ∷ []) in
       let place-le : i + 1 ≤ places (k + 1) = omega arith in
       let rule-le : k + 1 ≤ lastRule = omega arith in
-      let next : length (findingsTo isBroken places (k + 1)) ≡ length fs + length all = ap length (rule-more k) ∙ length-append fs all in
+      let next : length (findingsTo v isBroken places (k + 1)) ≡ length fs + length all = ap length (rule-more k) ∙ length-append fs all in
       omega (arith, length-append fs now, rule-rising (k + 1) _ _ place-le, rules-rising _ _ rule-le)
 
   -- what is entered in the list, through the loop over places and the loop over rules
-  pub entered-first : (k : ℕ) {n : ℕ} {xs : List Finding} → Entered (findingsTo isBroken places k) n xs → Entered (findingsTo isBroken places k ++ ruleFindings (isBroken (k + 1)) (k + 1) 0) n xs
-  entered-first k s = rw (found-none (findingsTo isBroken places k) (k + 1)) s
+  pub entered-first : (k : ℕ) {n : ℕ} {xs : List Finding} → Entered (findingsTo v isBroken places k) n xs → Entered (findingsTo v isBroken places k ++ ruleFindings v (isBroken (k + 1)) (k + 1) 0) n xs
+  entered-first k s = rw (found-none (findingsTo v isBroken places k) (k + 1)) s
 
-  pub entered-room : (k i : ℕ) {n : ℕ} {xs : List Finding} {test : Bool} → length (findingsTo isBroken places lastRule) ≤ mostFindings → k < lastRule → i < places (k + 1) → test ≡ isBroken (k + 1) i → test ≡ true → Entered (findingsTo isBroken places k ++ ruleFindings (isBroken (k + 1)) (k + 1) i) n xs → n < mostFindings
+  pub entered-room : (k i : ℕ) {n : ℕ} {xs : List Finding} {test : Bool} → length (findingsTo v isBroken places lastRule) ≤ mostFindings → k < lastRule → i < places (k + 1) → test ≡ isBroken (k + 1) i → test ≡ true → Entered (findingsTo v isBroken places k ++ ruleFindings v (isBroken (k + 1)) (k + 1) i) n xs → n < mostFindings
   entered-room k i within rule-in place-in t e s =
       rw (s .count) (lt-of-lt-of-le (room k i rule-in place-in t e) within)
 
-  pub entered-found : (k i : ℕ) {n : ℕ} {xs : List Finding} {test : Bool} {f : Finding} → length (findingsTo isBroken places lastRule) ≤ mostFindings → k < lastRule → i < places (k + 1) → test ≡ isBroken (k + 1) i → test ≡ true → f ≡ findingAt (k + 1) i → Entered (findingsTo isBroken places k ++ ruleFindings (isBroken (k + 1)) (k + 1) i) n xs → Entered (findingsTo isBroken places k ++ ruleFindings (isBroken (k + 1)) (k + 1) (i + 1)) (n + 1) (set xs n f)
+  pub entered-found : (k i : ℕ) {n : ℕ} {xs : List Finding} {test : Bool} {f : Finding} → length (findingsTo v isBroken places lastRule) ≤ mostFindings → k < lastRule → i < places (k + 1) → test ≡ isBroken (k + 1) i → test ≡ true → f ≡ findingAt v (k + 1) i → Entered (findingsTo v isBroken places k ++ ruleFindings v (isBroken (k + 1)) (k + 1) i) n xs → Entered (findingsTo v isBroken places k ++ ruleFindings v (isBroken (k + 1)) (k + 1) (i + 1)) (n + 1) (set xs n f)
   entered-found k i within rule-in place-in t e is s =
       rw (found-more (k + 1) i t e, is, ← append-assoc)
-      (filled-more (findingAt (k + 1) i) s (entered-room k i within rule-in place-in t e s))
+      (filled-more (findingAt v (k + 1) i) s (entered-room k i within rule-in place-in t e s))
 
-  pub entered-passed : (k i : ℕ) {n : ℕ} {xs : List Finding} {test : Bool} → test ≡ isBroken (k + 1) i → test ≡ false → Entered (findingsTo isBroken places k ++ ruleFindings (isBroken (k + 1)) (k + 1) i) n xs → Entered (findingsTo isBroken places k ++ ruleFindings (isBroken (k + 1)) (k + 1) (i + 1)) n xs
+  pub entered-passed : (k i : ℕ) {n : ℕ} {xs : List Finding} {test : Bool} → test ≡ isBroken (k + 1) i → test ≡ false → Entered (findingsTo v isBroken places k ++ ruleFindings v (isBroken (k + 1)) (k + 1) i) n xs → Entered (findingsTo v isBroken places k ++ ruleFindings v (isBroken (k + 1)) (k + 1) (i + 1)) n xs
   entered-passed k i t e s = rw (found-passed (k + 1) i t e) s
 
-  pub entered-rule : (k i : ℕ) {n : ℕ} {xs : List Finding} → i ≡ places (k + 1) → Entered (findingsTo isBroken places k ++ ruleFindings (isBroken (k + 1)) (k + 1) i) n xs → Entered (findingsTo isBroken places (k + 1)) n xs
+  pub entered-rule : (k i : ℕ) {n : ℕ} {xs : List Finding} → i ≡ places (k + 1) → Entered (findingsTo v isBroken places k ++ ruleFindings v (isBroken (k + 1)) (k + 1) i) n xs → Entered (findingsTo v isBroken places (k + 1)) n xs
   entered-rule k i all s = rw (rule-more k, ← all) s

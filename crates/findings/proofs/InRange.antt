@@ -11,20 +11,21 @@ use Rattle.metering.specs.Metering.{time, meteredVolume, metering}
 use Rattle.lines.specs.Sheet.{lines}
 use Rattle.choosing.specs.declared.Chosen.{Chosen}
 use Rattle.rules.specs.declared.Beside.{Beside}
-use Rattle.rules.specs.Rules.{Judgeable, placesOf}
-use Rattle.findings.specs.Listing.{besideOf, linesFor, Worked}
+use Rattle.classes.specs.Classes.{placesOf}
+use Rattle.rules.specs.Rules.{Judgeable}
+use Rattle.findings.specs.Listing.{besideOf, Worked}
 use Rattle.findings.proofs.Places.{inside-points, inside-segments, inside-weighings}
 
-worked-time : (r : Run) (ch : Chosen) (l : Lines) → Worked r ch l → l .metering .time ≤ greatestTotalSeconds
-unfolding linesFor lines metering time
-worked-time r ch l w = rw (w .lines) (within-greatest _ _ _ (w .ok .total))
+worked-time : (r : Run) (l : Lines) → Worked r l → l .metering .time ≤ greatestTotalSeconds
+unfolding lines metering time
+worked-time r l w = rw (w .is) (within-greatest _ _ _ (w .ok .total))
 
-worked-volume : (r : Run) (ch : Chosen) (l : Lines) → Worked r ch l → l .metering .volume ≤ greatestAboveFirst
-unfolding linesFor lines metering meteredVolume
-worked-volume r ch l w =
-    rw (w .lines) (omega (arith, within-greatest _ _ _ (w .ok .header .last)))
+worked-volume : (r : Run) (l : Lines) → Worked r l → l .metering .volume ≤ greatestAboveFirst
+unfolding lines metering meteredVolume
+worked-volume r l w =
+    rw (w .is) (omega (arith, within-greatest _ _ _ (w .ok .header .last)))
 
-module _ (r : Run) (ch : Chosen) (l : Lines) (w : Worked r ch l) where
+module _ (r : Run) (l : Lines) (w : Worked r l) where
   -- the places of a rule about points, segments or weighings are inside the run's list of them
   pub point-in : {rule i : ℕ} → rule ≡ 10 → i < placesOf (r .header .counts) rule → i < greatestPointCount
   point-in e h = lt-of-lt-of-le (inside-points _ e h) (within-greatest _ _ _ (w .ok .header .points))
@@ -40,6 +41,6 @@ module _ (r : Run) (ch : Chosen) (l : Lines) (w : Worked r ch l) where
   weighing-in e h = lt-of-lt-of-le (inside-weighings _ e h) weighings-in
 
   -- Any rule can be judged beside what it may see of the run
-  pub judgeable : {beside : Beside} → beside ≡ besideOf r ch l → Judgeable beside
+  pub judgeable : (ch : Chosen) {beside : Beside} → beside ≡ besideOf r ch l → Judgeable beside
   unfolding besideOf
-  judgeable is = rw is (record { time = worked-time r ch l w; volume = worked-volume r ch l w })
+  judgeable ch is = rw is (record { time = worked-time r l w; volume = worked-volume r l w })

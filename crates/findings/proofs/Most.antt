@@ -9,6 +9,7 @@ use native.Mathlib.Omega.{arith}
 use borrow.Author.Tests.{eq-eqb, ne-eqb, eqb-true, le-ltb}
 use lib.Dec.{eqb}
 use lib.ListN.{length, getD, length-append}
+use Rattle.readings.specs.declared.headers.Version.{Version}
 use Rattle.readings.specs.Ranges.{greatestPointCount, greatestSegmentCount, greatestWeighingCount, filterKind, rinseKind}
 use Rattle.readings.proofs.Ranges.{within-least, within-greatest}
 use Rattle.records.specs.declared.Weighing.{Weighing}
@@ -28,7 +29,8 @@ use Rattle.grounds.specs.Comparing.{holds, deciding, compareExactly}
 use Rattle.rules.specs.declared.Beside.{Beside}
 use Rattle.grounds.specs.Grounds.{broken}
 use Rattle.conditions.specs.Conditions.{missing, moved, uneven, lineAgainst, ratioAgainst, leastIsokinetic, greatestIsokinetic, lacking}
-use Rattle.rules.specs.Rules.{lastRule, table, groundOf, placesOf}
+use Rattle.classes.specs.Classes.{placesOf}
+use Rattle.rules.specs.Rules.{lastRule, table, groundOf}
 use Rattle.findings.specs.Listing.{partOf, oneOfKind, ofKind, besideOf, brokenAt, findingAt, ruleFindings, findingsTo, findings, linesFor, findingsFor, mostFindings, Worked}
 use Rattle.findings.proofs.Filling.{rising}
 use Rattle.findings.proofs.Absent.{no-volume, no-moisture, no-velocity, no-flow}
@@ -43,23 +45,23 @@ bit-le true = le-refl 1
 bit-le false = omega arith
 
 -- how many findings a rule has
-module _ (isBroken : ℕ → ℕ → Bool) (places : ℕ → ℕ) where
+module _ (v : Version) (isBroken : ℕ → ℕ → Bool) (places : ℕ → ℕ) where
   many : ℕ → ℕ
-  many rule = length (ruleFindings (isBroken rule) rule (places rule))
+  many rule = length (ruleFindings v (isBroken rule) rule (places rule))
 
-  one-more : (rule i : ℕ) → length (cond (isBroken rule i) (findingAt rule i ∷ []) []) ≡ bit (isBroken rule i)
+  one-more : (rule i : ℕ) → length (cond (isBroken rule i) (findingAt v rule i ∷ []) []) ≡ bit (isBroken rule i)
   one-more rule i = go (isBroken rule i)
     where
-      go : (t : Bool) → length (cond t (findingAt rule i ∷ []) []) ≡ bit t
+      go : (t : Bool) → length (cond t (findingAt v rule i ∷ []) []) ≡ bit t
       go true = refl
       go false = refl
 
   -- no more than it has places
-  upto : (rule n : ℕ) → length (ruleFindings (isBroken rule) rule n) ≤ n
+  upto : (rule n : ℕ) → length (ruleFindings v (isBroken rule) rule n) ≤ n
   unfolding ruleFindings
   upto rule zero = le-refl 0
   upto rule (suc n) =
-      let more = length-append (ruleFindings (isBroken rule) rule n) (cond (isBroken rule n) (findingAt rule n ∷ []) []) in
+      let more = length-append (ruleFindings v (isBroken rule) rule n) (cond (isBroken rule n) (findingAt v rule n ∷ []) []) in
       omega (arith, more, one-more rule n, bit-le (isBroken rule n), upto rule n)
 
   many-le : (rule : ℕ) → many rule ≤ places rule
@@ -72,12 +74,12 @@ module _ (isBroken : ℕ → ℕ → Bool) (places : ℕ → ℕ) where
   many-whole rule e = rw e (one-more rule 0)
 
   -- all of them
-  many-all : (k : ℕ) → length (findingsTo isBroken places k) ≡ sumTo (λ i. many (i + 1)) k
+  many-all : (k : ℕ) → length (findingsTo v isBroken places k) ≡ sumTo (λ i. many (i + 1)) k
   unfolding many findingsTo sumTo
   many-all zero = refl
   many-all (suc k) =
-      length-append (findingsTo isBroken places k) (ruleFindings (isBroken (k + 1)) (k + 1) (places (k + 1)))
-      ∙ ap (λ (n : ℕ). n + length (ruleFindings (isBroken (k + 1)) (k + 1) (places (k + 1)))) (many-all k)
+      length-append (findingsTo v isBroken places k) (ruleFindings v (isBroken (k + 1)) (k + 1) (places (k + 1)))
+      ∙ ap (λ (n : ℕ). n + length (ruleFindings v (isBroken (k + 1)) (k + 1) (places (k + 1)))) (many-all k)
 
 -- 3 and 6: without a nozzle certificate there is no diameter to compare
 nozzle-once : (n : Lookup) → bit (broken (missing n)) + bit (broken (uneven n)) ≤ 1
@@ -176,30 +178,30 @@ weighed-once ws n many few le kinds = go (decLe 1 n)
     go (no none) =
         omega (arith, bit-le (broken (lacking (ofKind filterKind ws n))), bit-le (broken (lacking (ofKind rinseKind ws n))))
 
-module _ (r : Run) (ch : Chosen) (l : Lines) (w : Worked r ch l) where
+module _ (v : Version) (r : Run) (ch : Chosen) (l : Lines) (w : Worked r l) where
   -- rules 12 to 16 together
   lines-once : bit (brokenAt r ch l 12 0) + (bit (brokenAt r ch l 14 0) + (bit (brokenAt r ch l 15 0) + bit (brokenAt r ch l 16 0))) ≤ 1
   unfolding besideOf brokenAt table groundOf
   lines-once =
-      zero-once _ _ (zero-once _ _ (percent-once _) (λ e. percent-missing _ (no-flow r ch l (w .lines) e)))
+      zero-once _ _ (zero-once _ _ (percent-once _) (λ e. percent-missing _ (no-flow r l w e)))
       (λ e.
       let no-volume-drawn : l .metering .corrected ≡ 0 = cc in
-      after-velocity (no-moisture r ch l (w .lines) (no-volume r ch l (w .lines) no-volume-drawn)))
+      after-velocity (no-moisture r l w (no-volume r l w no-volume-drawn)))
     where
       after-velocity : l .stack .velocity ≡ Missing → bit (broken (lineAgainst (l .stack .velocity) Same 0)) + (bit (broken (ratioAgainst (l .sampling .isokinetic) Below leastIsokinetic)) + bit (broken (ratioAgainst (l .sampling .isokinetic) Above greatestIsokinetic))) ≡ 0
-      after-velocity e = zero-missing _ _ e (percent-missing _ (no-velocity r ch l (w .lines) e))
+      after-velocity e = zero-missing _ _ e (percent-missing _ (no-velocity r l w e))
 
   -- how many findings rule number `rule` has
   has : ℕ → ℕ
-  has rule = many (brokenAt r ch l) (placesOf (r .header .counts)) rule
+  has rule = many v (brokenAt r ch l) (placesOf (r .header .counts)) rule
 
   has-le : (rule : ℕ) → has rule ≤ placesOf (r .header .counts) rule
   unfolding has
-  has-le rule = many-le (brokenAt r ch l) (placesOf (r .header .counts)) rule
+  has-le rule = many-le v (brokenAt r ch l) (placesOf (r .header .counts)) rule
 
   has-whole : (rule : ℕ) → placesOf (r .header .counts) rule ≡ 1 → has rule ≡ bit (brokenAt r ch l rule 0)
   unfolding has
-  has-whole rule e = many-whole (brokenAt r ch l) (placesOf (r .header .counts)) rule e
+  has-whole rule e = many-whole v (brokenAt r ch l) (placesOf (r .header .counts)) rule e
 
   three-and-six : has 3 + has 6 ≤ 1
   unfolding placesOf besideOf brokenAt table groundOf
@@ -227,7 +229,7 @@ module _ (r : Run) (ch : Chosen) (l : Lines) (w : Worked r ch l) where
       let kind = w .ok .weighings i inside .kind in
       (within-least _ _ _ kind, within-greatest _ _ _ kind)))
 
-  all-fit : length (findingsTo (brokenAt r ch l) (placesOf (r .header .counts)) lastRule) ≤ mostFindings
+  all-fit : length (findingsTo v (brokenAt r ch l) (placesOf (r .header .counts)) lastRule) ≤ mostFindings
   unfolding placesOf sumTo has
   all-fit =
       let points : r .header .counts .points ≤ greatestPointCount = within-greatest _ _ _ (w .ok .header .points) in
@@ -240,19 +242,19 @@ module _ (r : Run) (ch : Chosen) (l : Lines) (w : Worked r ch l) where
       let eight : has 8 ≤ 1 = has-le 8 in
       let nine : has 9 ≤ 1 = has-le 9 in
       let twenty : has 20 ≤ 1 = has-le 20 in
-      omega (arith, many-all (brokenAt r ch l) (placesOf (r .header .counts)) lastRule, three-and-six, four-and-five, twelve-to-sixteen, no-thirteen, seventeen-to-nineteen)
+      omega (arith, many-all v (brokenAt r ch l) (placesOf (r .header .counts)) lastRule, three-and-six, four-and-five, twelve-to-sixteen, no-thirteen, seventeen-to-nineteen)
 
   -- the same where what stands beside is known only to be the run's
-  pub all-fit-beside : {beside : Beside} → beside ≡ besideOf r ch l → length (findingsTo (λ rule i. broken (groundOf (partOf r rule i) beside rule)) (placesOf (r .header .counts)) lastRule) ≤ mostFindings
+  pub all-fit-beside : {beside : Beside} → beside ≡ besideOf r ch l → length (findingsTo v (λ rule i. broken (groundOf (partOf r rule i) beside rule)) (placesOf (r .header .counts)) lastRule) ≤ mostFindings
   unfolding brokenAt
   all-fit-beside is = rw is all-fit
 
   -- At most 98 findings
-  pub at-most : length (findings r ch l) ≤ mostFindings
+  pub at-most : length (findings v r ch l) ≤ mostFindings
   unfolding findings
   at-most = all-fit
 
 -- with the lines that a run in range gives
-pub at-most-for : (r : Run) (ch : Chosen) → RunOk r → length (findingsFor r ch) ≤ mostFindings
-unfolding findingsFor
-at-most-for r ch ok = at-most r ch (linesFor r ch) (record { ok = ok; lines = refl })
+pub at-most-for : (v : Version) (r : Run) (ch : Chosen) → RunOk r → length (findingsFor v r ch) ≤ mostFindings
+unfolding linesFor findingsFor
+at-most-for v r ch ok = at-most v r ch (linesFor v r ch) (record { ok = ok; y = _; cp = _; nozzle = _; is = refl })

@@ -6,7 +6,7 @@ use Rattle.records.specs.declared.Counts.{Counts}
 use Rattle.records.specs.declared.Run.{Run}
 use Rattle.records.specs.Records.{pointOf, segmentOf, weighingOf}
 use Rattle.conditions.specs.declared.Part.the-variants.{Whole, OnePoint, OneSegment, OneWeighing}
-use Rattle.rules.specs.Rules.{placesOf}
+use Rattle.classes.specs.Classes.{placesOf}
 use Rattle.findings.specs.Listing.{partOf}
 
 pub inside-points : (n : Counts) {rule i : ℕ} → rule ≡ 10 → i < placesOf n rule → i < n .points

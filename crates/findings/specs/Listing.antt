@@ -5,12 +5,15 @@ use mathlib.Core.Bool.{Bool, true, cond, not, _&&_}
 use mathlib.Core.List.{List, [], _∷_, _++_}
 use lib.Dec.{eqb}
 use lib.ListN.{length, getD}
+use Rattle.readings.specs.declared.headers.Version.{Version}
 use Rattle.readings.specs.Ranges.{filterKind, rinseKind}
 use Rattle.arrays.specs.Arrays.{filledTo}
 use Rattle.records.specs.declared.Weighing.{Weighing}
 use Rattle.records.specs.declared.Run.{Run}
 use Rattle.records.specs.Records.{noWeighing, pointOf, segmentOf, weighingOf, sumTo}
 use Rattle.records.specs.InRange.{RunOk}
+use Rattle.values.specs.declared.Diameters.{Diameters}
+use Rattle.values.specs.declared.Value.{Value}
 use Rattle.lines.specs.declared.Lines.{Lines}
 use Rattle.lines.specs.Sheet.{lines}
 use Rattle.choosing.specs.declared.Chosen.{Chosen}
@@ -20,7 +23,8 @@ use Rattle.conditions.specs.declared.Part.the-variants.{Whole, OnePoint, OneSeg
 use Rattle.rules.specs.declared.Beside.{Beside}
 use Rattle.grounds.specs.Grounds.{broken}
 use Rattle.site.specs.Site.{minimumPoints}
-use Rattle.rules.specs.Rules.{lastRule, groundOf, placesOf, placeAt, fault, classOf}
+use Rattle.classes.specs.Classes.{placesOf, placeAt, fault, classOf}
+use Rattle.rules.specs.Rules.{lastRule, groundOf}
 use Rattle.findings.specs.declared.Finding.{Finding}
 use Rattle.findings.specs.declared.Findings.{Findings}
 
@@ -55,24 +59,24 @@ besideOf r ch l =
 unfoldable pub brokenAt : Run → Chosen → Lines → ℕ → ℕ → Bool
 brokenAt r ch l rule i = broken (groundOf (partOf r rule i) (besideOf r ch l) rule)
 
--- the finding of a rule at its place i
-unfoldable pub findingAt : ℕ → ℕ → Finding
-findingAt rule i = record { rule = rule; class = classOf rule; place = placeAt rule i }
+-- the finding of a rule at its place i, in a job of that version
+unfoldable pub findingAt : Version → ℕ → ℕ → Finding
+findingAt v rule i = record { rule = rule; class = classOf v rule; place = placeAt rule i }
 
 -- a rule's findings at its first n places, by place
-unfoldable pub ruleFindings : (ℕ → Bool) → ℕ → ℕ → List Finding
-ruleFindings isBroken rule zero = []
-ruleFindings isBroken rule (suc i) = ruleFindings isBroken rule i ++ cond (isBroken i) (findingAt rule i ∷ []) []
+unfoldable pub ruleFindings : Version → (ℕ → Bool) → ℕ → ℕ → List Finding
+ruleFindings v isBroken rule zero = []
+ruleFindings v isBroken rule (suc i) = ruleFindings v isBroken rule i ++ cond (isBroken i) (findingAt v rule i ∷ []) []
 
 -- the findings of rules 1 to k, by rule and then by place
-unfoldable pub findingsTo : (ℕ → ℕ → Bool) → (ℕ → ℕ) → ℕ → List Finding
-findingsTo isBroken places zero = []
-findingsTo isBroken places (suc k) =
-    findingsTo isBroken places k ++ ruleFindings (isBroken (k + 1)) (k + 1) (places (k + 1))
+unfoldable pub findingsTo : Version → (ℕ → ℕ → Bool) → (ℕ → ℕ) → ℕ → List Finding
+findingsTo v isBroken places zero = []
+findingsTo v isBroken places (suc k) =
+    findingsTo v isBroken places k ++ ruleFindings v (isBroken (k + 1)) (k + 1) (places (k + 1))
 
--- The findings of a run
-unfoldable pub findings : Run → Chosen → Lines → List Finding
-findings r ch l = findingsTo (brokenAt r ch l) (placesOf (r .header .counts)) lastRule
+-- The findings of a run of a job of that version
+unfoldable pub findings : Version → Run → Chosen → Lines → List Finding
+findings v r ch l = findingsTo v (brokenAt r ch l) (placesOf (r .header .counts)) lastRule
 
 -- no finding is a fault
 unfoldable pub accepted : List Finding → Bool
@@ -91,17 +95,20 @@ noFinding = record { rule = 0; class = 0; place = 0 }
 unfoldable pub listed : List Finding → Findings
 listed fs = record { count = length fs; list = filledTo mostFindings noFinding fs }
 
--- the lines of a run with its chosen certificates, and the findings that those lines give
-unfoldable pub linesFor : Run → Chosen → Lines
-linesFor r ch = lines r (factorOf ch) (coefficientOf ch) (diametersOf ch)
+-- the lines of a run with its chosen certificates, in a job of that version, and the findings that those lines give
+unfoldable pub linesFor : Version → Run → Chosen → Lines
+linesFor v r ch = lines r (factorOf v ch) (coefficientOf ch) (diametersOf ch)
 
-unfoldable pub findingsFor : Run → Chosen → List Finding
-findingsFor r ch = findings r ch (linesFor r ch)
+unfoldable pub findingsFor : Version → Run → Chosen → List Finding
+findingsFor v r ch = findings v r ch (linesFor v r ch)
 
--- a run in range, with the lines that it and its chosen certificates give
-pub record Worked (r : Run) (ch : Chosen) (l : Lines) : Type 0 where
+-- a run in range, with lines of its own, whatever certificates gave the values that they are worked with
+pub record Worked (r : Run) (l : Lines) : Type 0 where
   pub ok : RunOk r
-  pub lines : l ≡ linesFor r ch
+  pub y : Value
+  pub cp : Value
+  pub nozzle : Diameters
+  pub is : l ≡ lines r y cp nozzle
 
 -- What the list is promised to be, in the words of docs/RULES.md
 

@@ -6,6 +6,7 @@ pub mod weighings;
 use choosing::Chosen;
 use conditions::Part;
 use lines::Lines;
+use readings::headers::Version;
 use readings::weighings::WeighingKind;
 use records::Run;
 use rules::Beside;
@@ -54,20 +55,20 @@ fn beside_of(run: Run, chosen: Chosen, lines: Lines) -> Beside
 }
 
 // The finding of a rule at one of its places, counted from 0.
-fn finding_at(rule: u8, i: u8) -> Finding
-    ensures { λ r. ⌜ r ≡ findingAt rule i ⌝ }
+fn finding_at(v: Version, rule: u8, i: u8) -> Finding
+    ensures { λ r. ⌜ r ≡ findingAt v rule i ⌝ }
 {
     Finding {
         rule: rule,
-        class: rules::class(rule),
-        place: rules::place(rule, i),
+        class: classes::class(v, rule),
+        place: classes::place(rule, i),
     }
 }
 
-// The findings of a run, by rule and then by place.
-pub fn find(run: Run, chosen: Chosen, lines: Lines) -> Findings
-    requires { ⌜ Worked run chosen lines ⌝ }
-    ensures { λ r. ⌜ r ≡ listed (findings run chosen lines) ⌝ }
+// The findings of a run of a job of that version, by rule and then by place.
+pub fn find(v: Version, run: Run, chosen: Chosen, lines: Lines) -> Findings
+    requires { ⌜ Worked run lines ⌝ }
+    ensures { λ r. ⌜ r ≡ listed (findings v run chosen lines) ⌝ }
 {
     let header = run.header;
     let points = run.points;
@@ -86,7 +87,7 @@ pub fn find(run: Run, chosen: Chosen, lines: Lines) -> Findings
     let mut done: u8 = 0;
     while done < rules::LAST_RULE {
         let rule = done + 1;
-        let places = rules::places(header.counts, rule);
+        let places = classes::places(header.counts, rule);
         let mut i: u8 = 0;
         while i < places {
             let part = match rule {
@@ -96,7 +97,7 @@ pub fn find(run: Run, chosen: Chosen, lines: Lines) -> Findings
                 _ => Part::Whole,
             };
             if rules::ground_of(part, beside, rule).broken() {
-                found.list[count] = finding_at(rule, i);
+                found.list[count] = finding_at(v, rule, i);
                 count += 1;
             }
             i += 1;
@@ -117,7 +118,7 @@ pub fn accepted(found: Findings) -> bool
     let mut i: usize = 0;
     while i < count {
         let f = list[i];
-        if f.class == rules::FAULT {
+        if f.class == classes::FAULT {
             return false;
         }
         i += 1;

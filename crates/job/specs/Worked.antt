@@ -48,12 +48,12 @@ versionNumber Two = 2
 abbrev pub plain : Version → ℕ → List ℕ
 plain v serial = abcBytes serial (replicate (letters v 1) noLetter)
 
--- The worked job, its one segment lasting `seconds`
-abbrev pub lasting : Version → ℕ → List ℕ
-lasting v seconds =
+-- The worked job, the later factor of its meter `after`, its one segment lasting `seconds`
+abbrev pub varied : Version → ℕ → ℕ → List ℕ
+varied v after seconds =
     headerBytes (versionNumber v) 4 1
     ++ certificateBytes 1 (plain v 10442) 8990 10000 0 0
-    ++ certificateBytes 1 (plain v 10442) 9020 9800 0 0
+    ++ certificateBytes 1 (plain v 10442) 9020 after 0 0
     ++ certificateBytes 2 (plain v 1) 8990 840 0 0
     ++ certificateBytes 3 (plain v 2) 8990 250 250 250
     -- run 7, day 9000, meter, pitot, nozzle
@@ -72,7 +72,15 @@ lasting v seconds =
     ++ ((2 ∷ 0 ∷ []) ++ le32 1000000 ++ le32 1000153 ++ le32 1000150)
 
 abbrev pub workedJob : Version → List ℕ
-workedJob v = lasting v 3600
+workedJob v = varied v 9800 3600
+
+-- its segment lasting so long
+abbrev pub lasting : Version → ℕ → List ℕ
+lasting v seconds = varied v 9800 seconds
+
+-- its meter's factor moved by more than 5 percent, downwards
+abbrev pub movedJob : Version → List ℕ
+movedJob v = varied v 9499 3600
 
 -- How many certificates and runs it is read to hold, and where its run starts
 

@@ -6,7 +6,7 @@ use native.Mathlib.Omega.{arith}
 use lib.ListN.{length, length-append}
 use Rattle.fields.specs.declared.trouble.Trouble.{Trouble}
 use Rattle.fields.specs.declared.trouble.Trouble.the-variants.{Clear, At}
-use Rattle.opening.specs.Opening.{runCountOf}
+use Rattle.opening.specs.Opening.{versionOf, runCountOf}
 use Rattle.job.specs.Places.{runOf}
 use Rattle.job.specs.Troubles.{jobTrouble}
 use Rattle.job.proofs.ClearJobs.{job-clear, clear-run}
@@ -23,7 +23,7 @@ use Rattle.printing.specs.Jobs.{refusedWord, refusalText, runsText, text
 pub runs-short : (s : List ℕ) → jobTrouble s ≡ Clear → length (runsText s (runCountOf s)) ≤ 27088
 unfolding runsText reducedRun reduction chosenIn
 runs-short s clear =
-    let all = joined-short (λ k. runText (reducedRun s k)) (runCountOf s) 1693 (λ k inside. run-short (runOf s k) (chosenIn s k) (clear-run s clear k inside)) in
+    let all = joined-short (λ k. runText (reducedRun s k)) (runCountOf s) 1693 (λ k inside. run-short (versionOf s) (runOf s k) (chosenIn s k) (clear-run s clear k inside)) in
     omega (arith, all, run-count s (job-clear s clear .file))
 
 pub refusal-short : (number place : ℕ) → length (refusalText number place) ≤ 50

@@ -13,7 +13,7 @@ use Rattle.fields.specs.declared.trouble.Trouble.the-variants.{Clear, At}
 use Rattle.arrays.proofs.Arrays.{pad-at}
 use Rattle.fields.proofs.Tails.{enough}
 use Rattle.job.specs.declared.Job.{Job}
-use Rattle.opening.specs.Opening.{certificateCountOf, runCountOf}
+use Rattle.opening.specs.Opening.{versionOf, certificateCountOf, runCountOf}
 use Rattle.job.specs.Places.{runStart, runOf}
 use Rattle.job.specs.Reading.{jobOf, readJob}
 use Rattle.job.proofs.ClearJobs.{job-clear, clear-run, clear-certificate, run-within, certificates-within}
@@ -68,7 +68,7 @@ module _ (s : List ℕ) (j : Job) (ok : ClearJob s j) where
 -- a run of a clear job has no more findings than the list holds
 pub found-few : (s : List ℕ) → jobTrouble s ≡ Clear → (k : ℕ) → k < runCountOf s → reducedRun s k .findings .count ≤ mostFindings
 unfolding reducedRun reduction worked chosenIn listed
-found-few s clear k inside = at-most-for (runOf s k) (chosenIn s k) (clear-run s clear k inside)
+found-few s clear k inside = at-most-for (versionOf s) (runOf s k) (chosenIn s k) (clear-run s clear k inside)
 
 -- the search for a run by its number has passed k runs
 pub record Sought (s : List ℕ) (number : ℕ) (found : Which) (k : ℕ) : Type 0 where

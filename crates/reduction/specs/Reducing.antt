@@ -1,5 +1,5 @@
--- A run reduced: from its record and the certificates chosen for it to its lines and its findings. Certificates are a function
--- of an index, and a run is a value; a job's file is one source of both.
+-- A run reduced: from its record, the certificates chosen for it and the job's version to its lines and its findings. Certificates
+-- are a function of an index, a run and a version are values; a job's file is one source of them.
 use Prim.Native.Nat.{ℕ, zero, suc, _≤_, _<_}
 use mathlib.Core.Path.{_≡_}
 use mathlib.Core.Bool.{cond}
@@ -7,6 +7,7 @@ use mathlib.Core.List.{List}
 use lib.Dec.{eqb}
 use lib.ListN.{length}
 use Rattle.fields.specs.declared.trouble.Trouble.the-variants.{Clear}
+use Rattle.readings.specs.declared.headers.Version.{Version}
 use Rattle.records.specs.declared.Certificate.{Certificate}
 use Rattle.records.specs.declared.Run.{Run}
 use Rattle.records.specs.InRange.{RunOk}
@@ -27,19 +28,19 @@ use Rattle.reduction.specs.declared.Which.the-variants.{Index, NoRun}
 
 -- From values
 
--- a run worked with the certificates chosen for it
-unfoldable pub worked : Run → Chosen → Reduced
-worked r ch =
+-- a run worked with the certificates chosen for it, in a job of that version
+unfoldable pub worked : Version → Run → Chosen → Reduced
+worked v r ch =
     record {
       number = r .header .number;
-      accepted = accepted (findingsFor r ch);
-      sheet = sheet (linesFor r ch);
-      findings = listed (findingsFor r ch);
+      accepted = accepted (findingsFor v r ch);
+      sheet = sheet (linesFor v r ch);
+      findings = listed (findingsFor v r ch);
     }
 
--- A run reduced with the first n certificates
-unfoldable pub reduction : (ℕ → Certificate) → ℕ → Run → Reduced
-reduction f n r = worked r (chosenFor f n (r .header))
+-- A run reduced with the first n certificates, in a job of that version
+unfoldable pub reduction : Version → (ℕ → Certificate) → ℕ → Run → Reduced
+reduction v f n r = worked v r (chosenFor f n (r .header))
 
 -- the run and the certificates are in range
 pub record Reducible (f : ℕ → Certificate) (n : ℕ) (r : Run) : Type 0 where
@@ -73,4 +74,4 @@ chosenIn s k = chosenFor (certificateOf s) (certificateCountOf s) (runOf s k .he
 
 -- Run k of a job
 unfoldable pub reducedRun : List ℕ → ℕ → Reduced
-reducedRun s k = reduction (certificateOf s) (certificateCountOf s) (runOf s k)
+reducedRun s k = reduction (versionOf s) (certificateOf s) (certificateCountOf s) (runOf s k)

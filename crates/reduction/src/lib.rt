@@ -28,17 +28,17 @@ pub enum Which {
     NoRun,
 }
 
-// A run, wherever it comes from, reduced with the first `count` certificates of a file, which are read at their place by its version.
+// A run, wherever it comes from, reduced with the first `count` certificates of a file and by its version.
 pub fn work(s: &[u8], v: Version, count: usize, run: Run) -> Reduced
     requires { ⌜ (v ≡ versionOf (now s)) × ReducibleFrom (now s) count run ⌝ }
-    ensures { λ r. ⌜ r ≡ reduction (certificateOf (now (s .entry))) count run ⌝ }
+    ensures { λ r. ⌜ r ≡ reduction v (certificateOf (now (s .entry))) count run ⌝ }
 {
     let chosen = certs::choose_all(s, v, count, run.header);
-    let y = factors::factor_of(chosen);
+    let y = factors::factor_of(v, chosen);
     let cp = factors::coefficient_of(chosen);
     let nozzle = factors::diameters_of(chosen);
     let l = sheets::lines(run, y, cp, nozzle);
-    let found = findings::find(run, chosen, l);
+    let found = findings::find(v, run, chosen, l);
     Reduced {
         number: run.header.number,
         accepted: findings::accepted(found),

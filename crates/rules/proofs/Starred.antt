@@ -1,28 +1,42 @@
 -- The starred values, each by computation, and how lists of them are put together.
 use Prim.Native.Nat.{ℕ, _*_}
 use mathlib.Core.Path.{_≡_, refl}
+use mathlib.Core.Bool.{cond}
 use mathlib.Core.List.{List, [], _∷_, _++_, map}
 use native.Mathlib.Omega.{arith}
 use borrow.Author.Tests.{le-ltb}
 use Rattle.grounds.specs.declared.comparison.Way.the-variants.{Below, Above}
 use Rattle.grounds.specs.Comparing.{holds, compare, deciding, compareExactly, apart}
-use Rattle.factors.specs.Factor.{factorMoved, factor, factorOf}
+use Rattle.factors.specs.Factor.{factorMoved, lowerIfMoved, factor, factorOf}
 use Rattle.grounds.specs.Grounds.{broken}
 use Rattle.conditions.specs.Conditions.{moved, ratioAgainst, leastIsokinetic, greatestIsokinetic, steadyLimit, unsteady}
+use Rattle.classes.specs.Classes.{classOf}
 use Rattle.rules.specs.Rules.{table, groundOf}
 use Rattle.rules.specs.Starred.{Each, StarredFactor, starredFactors, FactorStands, Such, StarredIsokinetic, starredIsokinetic, IsokineticStands, StarredWeighing, starredWeighings, WeighingStands}
 
--- a starred factor stands where the two factors alone give the note and Y
-factor-stands : (s : StarredFactor) → holds (factorMoved (s .before) (s .after)) ≡ s .note → factor (s .before) (s .after) ≡ s .y → FactorStands s
+-- what holds of each, and gives something else, gives that of each
+each : {A : Type 0} {P Q : A → Type 0} → ((x : A) → P x → Q x) → (xs : List A) → Each P xs → Each Q xs
+each f [] none = tt
+each f (x ∷ xs) (first, rest) = (f x first, each f xs rest)
+
+-- the version and the two factors alone give the finding and Y
+abbrev FindingAndY : StarredFactor → Type 0
+FindingAndY s =
+    (cond (holds (factorMoved (s .before) (s .after))) (classOf (s .version) 5 ∷ []) [] ≡ s .five)
+    × (factor (s .version) (s .before) (s .after) ≡ s .y)
+
+factor-stands : (s : StarredFactor) → FindingAndY s → FactorStands s
 unfolding broken moved table groundOf factorOf
-factor-stands s note y part b before after is-before is-after first second = (
-  rw (is-before, is-after, first, second) note,
+factor-stands s (five, y) part b before after is-before is-after first second = (
+  rw (is-before, is-after, first, second) five,
   rw (is-before, is-after, first, second, y),
 )
 
 pub starred-factors : Each FactorStands starredFactors
-unfolding starredFactors holds factorMoved apart factor
-starred-factors = (factor-stands _ refl refl, (factor-stands _ refl refl, (factor-stands _ refl refl, tt)))
+unfolding starredFactors holds factorMoved apart lowerIfMoved factor classOf
+starred-factors =
+    each factor-stands starredFactors
+    ((refl, refl), ((refl, refl), ((refl, refl), ((refl, refl), ((refl, refl), ((refl, refl), tt))))))
 
 -- the quotient and every such remainder alone give the faults
 abbrev Faults : StarredIsokinetic → Type 0
@@ -54,11 +68,6 @@ isokinetic-stands s alone part b n exact quotient such = (
   rw (exact, quotient) (alone (n .remainder) such .0),
   rw (exact, quotient) (alone (n .remainder) such .1),
 )
-
--- what holds of each, and gives something else, gives that of each
-each : {A : Type 0} {P Q : A → Type 0} → ((x : A) → P x → Q x) → (xs : List A) → Each P xs → Each Q xs
-each f [] none = tt
-each f (x ∷ xs) (first, rest) = (f x first, each f xs rest)
 
 pub starred-isokinetic : Each IsokineticStands starredIsokinetic
 starred-isokinetic = each isokinetic-stands starredIsokinetic faults

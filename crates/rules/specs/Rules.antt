@@ -1,11 +1,9 @@
--- The table of the rules of docs/RULES.md, of what places each speaks, and its class.
-use Prim.Native.Nat.{ℕ, _+_, _≤_}
+-- The table of the rules of docs/RULES.md, The findings: what each goes by.
+use Prim.Native.Nat.{ℕ, _≤_}
 use mathlib.Core.Bool.{cond}
 use mathlib.Core.List.{List, [], _∷_}
 use lib.Dec.{eqb}
 use Rattle.readings.specs.Ranges.{greatestAboveFirst, greatestTotalSeconds}
-use Rattle.grids.specs.Grids.{oneOf}
-use Rattle.records.specs.declared.Counts.{Counts}
 use Rattle.values.specs.declared.Value.the-variants.{Known}
 use Rattle.grounds.specs.declared.comparison.Way.the-variants.{Below, Above, Same}
 use Rattle.grounds.specs.declared.Ground.{Ground}
@@ -65,24 +63,3 @@ groundOf part b rule = groundIn (table part b) rule
 pub record Judgeable (b : Beside) : Type 0 where
   pub time : b .lines .metering .time ≤ greatestTotalSeconds
   pub volume : b .lines .metering .volume ≤ greatestAboveFirst
-
--- of how many places a rule speaks: points, segments or weighings, and otherwise the whole run
-unfoldable pub placesOf : Counts → ℕ → ℕ
-placesOf n rule =
-    cond (eqb rule 10) (n .points) (cond (eqb rule 11) (n .segments) (cond (eqb rule 17) (n .weighings) 1))
-
--- the place of a finding: 1 upward, and 0 when the rule is about the whole run
-unfoldable pub placeAt : ℕ → ℕ → ℕ
-placeAt rule i = cond (oneOf (10 ∷ 11 ∷ 17 ∷ []) rule) (i + 1) 0
-
--- the class of a fault
-abbrev pub fault : ℕ
-fault = 1
-
--- the class of a note
-abbrev pub note : ℕ
-note = 2
-
--- the class of a finding: notes are 5 and 11, the rest are faults
-unfoldable pub classOf : ℕ → ℕ
-classOf rule = cond (oneOf (5 ∷ 11 ∷ []) rule) note fault

@@ -1,10 +1,12 @@
 -- The starred values of docs/RULES.md that are about rules, as lists of what is given and what is expected.
 use Prim.Native.Nat.{ℕ}
 use mathlib.Core.Path.{_≡_}
-use mathlib.Core.Bool.{Bool, true, false}
+use mathlib.Core.Bool.{Bool, true, false, cond}
 use mathlib.Core.List.{List, [], _∷_}
 use lib.IntN.{ℤ, pos, negℤ}
 use Rattle.arith.specs.declared.Division.{Division}
+use Rattle.readings.specs.declared.headers.Version.{Version}
+use Rattle.readings.specs.declared.headers.Version.the-variants.{One, Two}
 use Rattle.records.specs.declared.Certificate.{Certificate}
 use Rattle.records.specs.declared.Weighing.{Weighing}
 use Rattle.values.specs.declared.Ratio.the-variants.{Exact}
@@ -14,6 +16,7 @@ use Rattle.factors.specs.Factor.{factorOf}
 use Rattle.conditions.specs.declared.Part.{Part}
 use Rattle.conditions.specs.declared.Part.the-variants.{OneWeighing}
 use Rattle.conditions.specs.Conditions.{difference, net}
+use Rattle.classes.specs.Classes.{fault, note, classOf}
 use Rattle.rules.specs.declared.Beside.{Beside}
 use Rattle.grounds.specs.Grounds.{broken}
 use Rattle.rules.specs.Rules.{groundOf}
@@ -23,21 +26,29 @@ abbrev pub Each : {A : Type 0} → (A → Type 0) → List A → Type 0
 Each P [] = Unit {0}
 Each P (x ∷ xs) = P x × Each P xs
 
--- a before and an after factor; whether there is a note, and Y
+-- a job's version, a before and an after factor; the class of the finding of rule 5, where there is one, and Y
 pub record StarredFactor : Type 0 where
+  pub version : Version
   pub before : ℕ
   pub after : ℕ
-  pub note : Bool
+  pub five : List ℕ
   pub y : ℕ
 
 unfoldable pub starredFactors : List StarredFactor
 starredFactors =
-    record { before = 10000; after = 10500; note = false; y = 10000 }
-    ∷ record { before = 10000; after = 10501; note = true; y = 10000 }
-    ∷ record { before = 10000; after = 9499; note = true; y = 9499 }
+    record { version = One; before = 10000; after = 10500; five = []; y = 10000 }
+    ∷ record { version = One; before = 10000; after = 10501; five = note ∷ []; y = 10000 }
+    ∷ record { version = One; before = 10000; after = 9499; five = note ∷ []; y = 9499 }
+    ∷ record { version = Two; before = 10000; after = 10500; five = []; y = 10000 }
+    ∷ record { version = Two; before = 10000; after = 10501; five = fault ∷ []; y = 10000 }
+    ∷ record { version = Two; before = 10000; after = 9499; five = fault ∷ []; y = 10000 }
     ∷ []
 
--- whatever a rule looks at, before and after certificates of those factors give the note, or none, and that Y
+-- the class of a finding of rule 5 in a job of that version, if the rule is broken
+abbrev pub fiveIn : Version → Part → Beside → List ℕ
+fiveIn v part b = cond (broken (groundOf part b 5)) (classOf v 5 ∷ []) []
+
+-- whatever a rule looks at, before and after certificates of those factors give that finding, or none, and that Y
 abbrev pub FactorStands : StarredFactor → Type 0
 FactorStands s =
     (part : Part) (b : Beside) (before after : Certificate)
@@ -45,7 +56,7 @@ FactorStands s =
     → b .chosen .after ≡ Found after
     → before .first ≡ s .before
     → after .first ≡ s .after
-    → (broken (groundOf part b 5) ≡ s .note) × (factorOf (b .chosen) ≡ Known (s .y))
+    → (fiveIn (s .version) part b ≡ s .five) × (factorOf (s .version) (b .chosen) ≡ Known (s .y))
 
 -- a remainder: that one, or any
 pub data Remainder : Type 0 where

@@ -1,5 +1,5 @@
-// The table of the rules: what each goes by, from the part that it looks at and from what it may see beside it; of what
-// places it speaks, and its class. Relies on the conditions.
+// The table of the rules: what each goes by, from the part that it looks at and from what it may see beside it.
+// Relies on the conditions.
 
 use choosing::Chosen;
 use conditions::Part;
@@ -24,15 +24,10 @@ use site::narrow;
 use site::wrong_points;
 use values::Value;
 ghost use mathlib.Core.Path.{_≡_};
-ghost use Rattle.rules.specs.Rules.{groundOf, placesOf, placeAt, classOf, Judgeable};
+ghost use Rattle.rules.specs.Rules.{groundOf, Judgeable};
 
 // The highest number of a rule.
 pub const LAST_RULE: u8 = 20;
-
-// The classes of findings.
-pub const FAULT: u8 = 1;
-
-pub const NOTE: u8 = 2;
 
 // What a rule may see beside its part: the chosen certificates, the lines, the site, the counts, how many filters and
 // rinses there are, and the least number of points, the number and not how it came about.
@@ -83,39 +78,5 @@ pub fn ground_of(part: Part, beside: Beside, rule: u8) -> Ground
         19 => lacking(beside.rinses),
         20 => negative(sampling.catch),
         _ => Ground::Silent,
-    }
-}
-
-// Of how many places a rule speaks: points, segments or weighings, and otherwise the whole run.
-pub fn places(counts: Counts, rule: u8) -> u8
-    ensures { λ r. ⌜ r ≡ placesOf counts rule ⌝ }
-{
-    match rule {
-        10 => counts.points,
-        11 => counts.segments,
-        17 => counts.weighings,
-        _ => 1,
-    }
-}
-
-// The place of a finding: points, segments and weighings from 1, and 0 for the whole run.
-pub fn place(rule: u8, i: u8) -> u16
-    ensures { λ r. ⌜ r ≡ placeAt rule i ⌝ }
-{
-    match rule {
-        10 => i as u16 + 1,
-        11 => i as u16 + 1,
-        17 => i as u16 + 1,
-        _ => 0,
-    }
-}
-
-// A finding's class: 5 and 11 are notes, the rest faults.
-pub fn class(rule: u8) -> u8
-    ensures { λ r. ⌜ r ≡ classOf rule ⌝ }
-{
-    match rule {
-        5 | 11 => NOTE,
-        _ => FAULT,
     }
 }

@@ -6,6 +6,7 @@ use mathlib.Core.List.{List, [], _∷_, _++_}
 use native.Mathlib.Omega.{arith}
 use lib.Dec.{eqb}
 use lib.ListN.{length, getD, replicate, length-append, List·getD-append}
+use Rattle.readings.specs.declared.headers.Version.{Version}
 use Rattle.readings.specs.Ranges.{leastRunNumber, greatestRunNumber, leastPointCount, greatestPointCount, leastSegmentCount, greatestSegmentCount, greatestWeighingCount}
 use Rattle.grids.specs.Grids.{oneOf}
 use Rattle.readings.proofs.Ranges.{within-greatest}
@@ -19,7 +20,7 @@ use Rattle.lines.specs.declared.Sheet.{Sheet}
 use Rattle.lines.specs.Sheet.{lineCount}
 use Rattle.choosing.specs.declared.Chosen.{Chosen}
 use Rattle.findings.specs.declared.Finding.{Finding}
-use Rattle.rules.specs.Rules.{placesOf, placeAt}
+use Rattle.classes.specs.Classes.{placesOf, placeAt}
 use Rattle.findings.specs.Listing.{noFinding, mostFindings, listed, findingsFor, linesFor, Breaks}
 use Rattle.findings.proofs.Members.{listed-exactly}
 use Rattle.findings.proofs.Most.{at-most-for}
@@ -90,25 +91,25 @@ unfolding placeAt
 place-few rule i h = either-most (oneOf (10 ∷ 11 ∷ 17 ∷ []) rule) _ _ greatestPointCount (omega arith) (omega arith)
 
 -- what a run breaks, and where, are numbers of two digits
-module _ (r : Run) (ch : Chosen) (ok : RunOk r) where
-  breaks-at : (i : ℕ) → i < length (findingsFor r ch) → Breaks r ch (linesFor r ch) (getD (findingsFor r ch) i noFinding .rule) (getD (findingsFor r ch) i noFinding .place)
+module _ (v : Version) (r : Run) (ch : Chosen) (ok : RunOk r) where
+  breaks-at : (i : ℕ) → i < length (findingsFor v r ch) → Breaks r ch (linesFor v r ch) (getD (findingsFor v r ch) i noFinding .rule) (getD (findingsFor v r ch) i noFinding .place)
   unfolding findingsFor
-  breaks-at i inside = listed-exactly r ch (linesFor r ch) _ _ .0 (record { index = i; inside = inside; same = (refl, refl) })
+  breaks-at i inside = listed-exactly v r ch (linesFor v r ch) _ _ .0 (record { index = i; inside = inside; same = (refl, refl) })
 
-  finding-at-short : (i : ℕ) → i < length (findingsFor r ch) → length (findingText (getD (findingsFor r ch) i noFinding)) ≤ 12
+  finding-at-short : (i : ℕ) → i < length (findingsFor v r ch) → length (findingText (getD (findingsFor v r ch) i noFinding)) ≤ 12
   finding-at-short i inside =
       let b = breaks-at i inside in
-      let few = places-few r ok (getD (findingsFor r ch) i noFinding .rule) in
-      let place = place-few (getD (findingsFor r ch) i noFinding .rule) (b .index) (omega (arith, few, b .inside)) in
+      let few = places-few r ok (getD (findingsFor v r ch) i noFinding .rule) in
+      let place = place-few (getD (findingsFor v r ch) i noFinding .rule) (b .index) (omega (arith, few, b .inside)) in
       finding-short _ (omega (arith, b .last)) (omega (arith, place, b .there))
 
-  found-short : length (findingsText (listed (findingsFor r ch) .list) (listed (findingsFor r ch) .count)) ≤ 1176
+  found-short : length (findingsText (listed (findingsFor v r ch) .list) (listed (findingsFor v r ch) .count)) ≤ 1176
   unfolding findingsText listed filledTo
   found-short =
-      let fs = findingsFor r ch in
+      let fs = findingsFor v r ch in
       let behind = replicate (mostFindings - length fs) noFinding in
       let all = joined-short (λ i. findingText (getD (fs ++ behind) i noFinding)) (length fs) 12 (λ i inside. rw (List·getD-append fs behind noFinding i inside) (finding-at-short i inside)) in
-      omega (arith, all, at-most-for r ch ok)
+      omega (arith, all, at-most-for v r ch ok)
 
 -- A run
 
@@ -116,16 +117,16 @@ standing-short : (accepted : Bool) → length (standing accepted) ≤ 10
 unfolding standing
 standing-short accepted = either-short accepted _ _ 10 (omega arith) (omega arith)
 
-pub run-short : (r : Run) (ch : Chosen) → RunOk r → length (runText (worked r ch)) ≤ 1693
+pub run-short : (v : Version) (r : Run) (ch : Chosen) → RunOk r → length (runText (worked v r ch)) ≤ 1693
 unfolding runText worked
-run-short r ch ok =
+run-short v r ch ok =
     let number = decimal (r .header .number) in
-    let stands = standing (worked r ch .accepted) in
-    let sheet = sheetText (worked r ch .sheet) in
-    let found = findingsText (listed (findingsFor r ch) .list) (listed (findingsFor r ch) .count) in
+    let stands = standing (worked v r ch .accepted) in
+    let sheet = sheetText (worked v r ch .sheet) in
+    let found = findingsText (listed (findingsFor v r ch) .list) (listed (findingsFor v r ch) .count) in
     let one = length-append runWord number in
     let two = length-append (runWord ++ number) stands in
     let three = length-append (runWord ++ number ++ stands) sheet in
     let four = length-append (runWord ++ number ++ stands ++ sheet) found in
     let small = within-greatest leastRunNumber greatestRunNumber _ (ok .header .number) in
-    omega (arith, one, two, three, four, decimal-digits 2 (r .header .number) (omega (arith, small)), standing-short (worked r ch .accepted), sheet-short (worked r ch .sheet), found-short r ch ok)
+    omega (arith, one, two, three, four, decimal-digits 2 (r .header .number) (omega (arith, small)), standing-short (worked v r ch .accepted), sheet-short (worked v r ch .sheet), found-short v r ch ok)

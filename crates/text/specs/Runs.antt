@@ -6,7 +6,7 @@ use lib.Dec.{eqb}
 use lib.ListN.{getD}
 use Rattle.findings.specs.declared.Finding.{Finding}
 use Rattle.findings.specs.Listing.{noFinding}
-use Rattle.rules.specs.Rules.{fault}
+use Rattle.classes.specs.Classes.{fault}
 use Rattle.reduction.specs.declared.Reduced.{Reduced}
 use Rattle.characters.specs.Numbers.{decimal}
 use Rattle.output.specs.Bytes.{joined}

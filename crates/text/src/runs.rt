@@ -16,7 +16,7 @@ fn put_class(out: &mut [u8], at: usize, class: u8) -> usize
     requires { ⌜ Room (now out) at (className class) ⌝ }
     ensures { λ r. ⌜ Wrote (now (out .entry)) at (className class) (now (out .exit)) r ⌝ }
 {
-    if class == rules::FAULT {
+    if class == classes::FAULT {
         return put_word(out, at, b"FAULT ");
     }
     put_word(out, at, b"NOTE ")

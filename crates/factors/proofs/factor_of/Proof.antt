@@ -20,8 +20,8 @@ enum-known-after c = search needs
 enum-told-2 : tie.Need-enum-told-2
 enum-told-2 c = search needs
 
-cast-t6 : tie.Need-cast-t6
-cast-t6 c = search needs
+cast-t7 : tie.Need-cast-t7
+cast-t7 c = search needs
 
 returns-2 : tie.Need-returns-2
 unfolding factorOf
@@ -30,8 +30,8 @@ returns-2 c = rw (c .before .before .before .before .before2 .given .1, c .befor
 factor-requires : tie.Need-factor-requires
 factor-requires c κs = search needs
 
-cast-t8 : tie.Need-cast-t8
-cast-t8 c = search needs
+cast-t9 : tie.Need-cast-t9
+cast-t9 c = search needs
 
 returns-3 : tie.Need-returns-3
 unfolding factorOf
@@ -48,8 +48,8 @@ factor-of-spec =
     returns
     enum-known-after
     enum-told-2
-    cast-t6
+    cast-t7
     returns-2
     factor-requires
-    cast-t8
+    cast-t9
     returns-3)

@@ -4,7 +4,7 @@ use mathlib.Core.Path.{_≡_}
 use native.Mathlib.Omega.{arith}
 use borrow.Author.Count.{below-none, below-more}
 use lib.ListN.{getD}
-use Rattle.rules.specs.Rules.{fault}
+use Rattle.classes.specs.Classes.{fault}
 use Rattle.findings.specs.Listing.{noFinding}
 use Rattle.findings.proofs.Accepting.{fault-void, notes-accepted}
 use Rattle.findings.proofs.accepted.Statement.{statement}

@@ -14,7 +14,8 @@ use Rattle.records.specs.declared.Weighing.{Weighing}
 use Rattle.records.specs.declared.RunHeader.{RunHeader}
 use Rattle.rules.specs.declared.Beside.{Beside}
 use Rattle.grounds.specs.Grounds.{broken}
-use Rattle.rules.specs.Rules.{lastRule, groundOf, placesOf}
+use Rattle.classes.specs.Classes.{placesOf}
+use Rattle.rules.specs.Rules.{lastRule, groundOf}
 use Rattle.findings.specs.Listing.{partOf, brokenAt, findings, findingsTo, ruleFindings, mostFindings}
 use Rattle.arrays.proofs.Filled.{filled-none}
 use Rattle.findings.proofs.Filling.{Entered, entered-first, entered-room, entered-found, entered-passed, entered-rule, entered-listed, rule-none}
@@ -30,26 +31,26 @@ brokenIn header points segments weighings beside rule i =
     broken (groundOf (partOf (record { header = header; points = points; segments = segments; weighings = weighings }) rule i) beside rule)
 
 abbrev Inv-loop2 : tie.InvT-loop2
-Inv-loop2 header points segments weighings beside found₀ count₀ done rule places i₀ found count i =
+Inv-loop2 v header points segments weighings beside found₀ count₀ done rule places i₀ found count i =
     (i ≤ places)
-    × Entered (findingsTo (brokenIn header points segments weighings beside) (placesOf (header .counts)) done ++ ruleFindings (brokenIn header points segments weighings beside (done + 1)) (done + 1) i) count (found .list)
+    × Entered (findingsTo v (brokenIn header points segments weighings beside) (placesOf (header .counts)) done ++ ruleFindings v (brokenIn header points segments weighings beside (done + 1)) (done + 1) i) count (found .list)
 
 abbrev μ-loop2 : tie.MeasureT-loop2
-μ-loop2 header points segments weighings beside found₀ count₀ done rule places i₀ found count i = places - i
+μ-loop2 v header points segments weighings beside found₀ count₀ done rule places i₀ found count i = places - i
 
 abbrev Inv-loop : tie.InvT-loop
-Inv-loop header points segments weighings beside found₀ count₀ done₀ found count done =
+Inv-loop v header points segments weighings beside found₀ count₀ done₀ found count done =
     (done ≤ lastRule)
-    × Entered (findingsTo (brokenIn header points segments weighings beside) (placesOf (header .counts)) done) count (found .list)
+    × Entered (findingsTo v (brokenIn header points segments weighings beside) (placesOf (header .counts)) done) count (found .list)
 
 abbrev μ-loop : tie.MeasureT-loop
-μ-loop header points segments weighings beside found₀ count₀ done₀ found count done = lastRule - done
+μ-loop v header points segments weighings beside found₀ count₀ done₀ found count done = lastRule - done
 
 beside-of-requires : tie.Need-beside-of-requires Inv-loop2 μ-loop2 Inv-loop μ-loop
-beside-of-requires c κs = weighings-in _ _ _ (c .before .before .before .before .pre)
+beside-of-requires c κs = weighings-in _ _ (c .before .before .before .before .pre)
 
 loop-holds : tie.Need-loop-holds Inv-loop2 μ-loop2 Inv-loop μ-loop
-loop-holds c = (omega arith, rw (rule-none _ _) (filled-none _ _))
+loop-holds c = (omega arith, rw (rule-none _ _ _) (filled-none _ _))
 
 add-rule : tie.Need-add-rule Inv-loop2 μ-loop2 Inv-loop μ-loop
 add-rule c = omega arith
@@ -58,25 +59,25 @@ places-requires : tie.Need-places-requires Inv-loop2 μ-loop2 Inv-loop μ-loop
 places-requires c κs = search needs
 
 loop2-holds : tie.Need-loop2-holds Inv-loop2 μ-loop2 Inv-loop μ-loop
-loop2-holds c = (omega arith, entered-first _ _ _ (c .before .before .loop .inv .1))
+loop2-holds c = (omega arith, entered-first _ _ _ _ (c .before .before .loop .inv .1))
 
-cast-t21 : tie.Need-cast-t21 Inv-loop2 μ-loop2 Inv-loop μ-loop
-cast-t21 c = omega arith
+cast-t22 : tie.Need-cast-t22 Inv-loop2 μ-loop2 Inv-loop μ-loop
+cast-t22 c = omega arith
 
-mul-t22 : tie.Need-mul-t22 Inv-loop2 μ-loop2 Inv-loop μ-loop
-mul-t22 c = omega arith
+mul-t23 : tie.Need-mul-t23 Inv-loop2 μ-loop2 Inv-loop μ-loop
+mul-t23 c = omega arith
 
-cast-t26 : tie.Need-cast-t26 Inv-loop2 μ-loop2 Inv-loop μ-loop
-cast-t26 c = omega arith
+cast-t27 : tie.Need-cast-t27 Inv-loop2 μ-loop2 Inv-loop μ-loop
+cast-t27 c = omega arith
 
-mul-t27 : tie.Need-mul-t27 Inv-loop2 μ-loop2 Inv-loop μ-loop
-mul-t27 c = omega arith
+mul-t28 : tie.Need-mul-t28 Inv-loop2 μ-loop2 Inv-loop μ-loop
+mul-t28 c = omega arith
 
-cast-t31 : tie.Need-cast-t31 Inv-loop2 μ-loop2 Inv-loop μ-loop
-cast-t31 c = omega arith
+cast-t32 : tie.Need-cast-t32 Inv-loop2 μ-loop2 Inv-loop μ-loop
+cast-t32 c = omega arith
 
-mul-t32 : tie.Need-mul-t32 Inv-loop2 μ-loop2 Inv-loop μ-loop
-mul-t32 c = omega arith
+mul-t33 : tie.Need-mul-t33 Inv-loop2 μ-loop2 Inv-loop μ-loop
+mul-t33 c = omega arith
 
 -- where the loops begin: what stands beside is made; and a turn of the inner loop
 abbrev Begun : Type 0
@@ -102,8 +103,8 @@ passed t = t .before .loop2 .i
 abbrev isBroken : Begun → ℕ → ℕ → Bool
 isBroken b rule i = broken (groundOf (partOf (start b .args .run) rule i) (b .beside-of .result) rule)
 
-fits : (b : Begun) → length (findingsTo (isBroken b) (placesOf (start b .args .run .header .counts)) lastRule) ≤ mostFindings
-fits b = all-fit-beside _ _ _ (start b .pre) (b .beside-of .ensures)
+fits : (b : Begun) → length (findingsTo (start b .args .v) (isBroken b) (placesOf (start b .args .run .header .counts)) lastRule) ≤ mostFindings
+fits b = all-fit-beside _ _ _ _ (start b .pre) (b .beside-of .ensures)
 
 rule-in : (t : Turn) → done t < lastRule
 rule-in t = omega (arith, t .before .before .before .loop-test .taken)
@@ -111,14 +112,14 @@ rule-in t = omega (arith, t .before .before .before .loop-test .taken)
 place-in : (t : Turn) → passed t < placesOf (start (begun t) .args .run .header .counts) (done t + 1)
 place-in t = rw (t .before .before .places .ensures) at (t .loop2-test .taken)
 
-array-copy-out-t25 : tie.Need-array-copy-out-t25 Inv-loop2 μ-loop2 Inv-loop μ-loop
-array-copy-out-t25 c = point-in _ _ _ (start (begun (c .before)) .pre) (c .match .keys1) (place-in (c .before))
+array-copy-out-t26 : tie.Need-array-copy-out-t26 Inv-loop2 μ-loop2 Inv-loop μ-loop
+array-copy-out-t26 c = point-in _ _ (start (begun (c .before)) .pre) (c .match .keys1) (place-in (c .before))
 
-array-copy-out-t30 : tie.Need-array-copy-out-t30 Inv-loop2 μ-loop2 Inv-loop μ-loop
-array-copy-out-t30 c = segment-in _ _ _ (start (begun (c .before)) .pre) (c .match .keys2) (place-in (c .before))
+array-copy-out-t31 : tie.Need-array-copy-out-t31 Inv-loop2 μ-loop2 Inv-loop μ-loop
+array-copy-out-t31 c = segment-in _ _ (start (begun (c .before)) .pre) (c .match .keys2) (place-in (c .before))
 
-array-copy-out-t35 : tie.Need-array-copy-out-t35 Inv-loop2 μ-loop2 Inv-loop μ-loop
-array-copy-out-t35 c = weighing-in _ _ _ (start (begun (c .before)) .pre) (c .match .keys3) (place-in (c .before))
+array-copy-out-t36 : tie.Need-array-copy-out-t36 Inv-loop2 μ-loop2 Inv-loop μ-loop
+array-copy-out-t36 c = weighing-in _ _ (start (begun (c .before)) .pre) (c .match .keys3) (place-in (c .before))
 
 -- the part that the rule looks at
 part-is : (c : tie.At-match-came Inv-loop2 μ-loop2 Inv-loop μ-loop) → c .match .part ≡ partOf (start (begun (c .before)) .args .run) (done (c .before) + 1) (passed (c .before))
@@ -132,7 +133,7 @@ part-is c =
 ground-of-requires : tie.Need-ground-of-requires Inv-loop2 μ-loop2 Inv-loop μ-loop
 ground-of-requires c κs =
     let b = begun (c .before) in
-    judgeable _ _ _ (start b .pre) (b .beside-of .ensures)
+    judgeable _ _ (start b .pre) _ (b .beside-of .ensures)
 
 broken-requires : tie.Need-broken-requires Inv-loop2 μ-loop2 Inv-loop μ-loop
 broken-requires c κs = search needs
@@ -148,11 +149,11 @@ finding-at-requires c κs = search needs
 has-room : (c : tie.After-finding-at Inv-loop2 μ-loop2 Inv-loop μ-loop) → c .before .before .before .before .before .before .loop2 .count < mostFindings
 has-room c =
     let turn = c .before .before .before .before .before in
-    entered-room _ _ _ _ (fits (begun turn)) (rule-in turn) (place-in turn) (test-is (c .before .before)) (c .before .if1 .taken)
+    entered-room _ _ _ _ _ (fits (begun turn)) (rule-in turn) (place-in turn) (test-is (c .before .before)) (c .before .if1 .taken)
     (turn .before .loop2 .inv .1)
 
-mul-t39 : tie.Need-mul-t39 Inv-loop2 μ-loop2 Inv-loop μ-loop
-mul-t39 c = omega (arith, has-room c)
+mul-t40 : tie.Need-mul-t40 Inv-loop2 μ-loop2 Inv-loop μ-loop
+mul-t40 c = omega (arith, has-room c)
 
 element-set-from-found : tie.Need-element-set-from-found Inv-loop2 μ-loop2 Inv-loop μ-loop
 element-set-from-found c = has-room c
@@ -176,9 +177,9 @@ loop2-again c =
     (λ w. (
       omega arith,
       rw (w .2, w .3)
-          (entered-found _ _ _ _ all (rule-in turn) (place-in turn) test (w .0 .taken) (w .1 .ensures) so-far),
+          (entered-found _ _ _ _ _ all (rule-in turn) (place-in turn) test (w .0 .taken) (w .1 .ensures) so-far),
     ))
-    (λ w. (omega arith, rw (w .1, w .2) (entered-passed _ _ _ _ test (w .0 .left) so-far)))
+    (λ w. (omega arith, rw (w .1, w .2) (entered-passed _ _ _ _ _ test (w .0 .left) so-far)))
     (c .if1 .came)
 
 loop-less : tie.Need-loop-less Inv-loop2 μ-loop2 Inv-loop μ-loop
@@ -187,7 +188,7 @@ loop-less c = omega arith
 loop-again : tie.Need-loop-again Inv-loop2 μ-loop2 Inv-loop μ-loop
 loop-again c =
     let all : c .before .loop2 .i ≡ c .before .before .places .result = omega arith in
-    (omega arith, entered-rule _ _ _ _ (all ∙ c .before .before .places .ensures) (c .before .loop2 .inv .1))
+    (omega arith, entered-rule _ _ _ _ _ (all ∙ c .before .before .places .ensures) (c .before .loop2 .inv .1))
 
 returns : tie.Need-returns Inv-loop2 μ-loop2 Inv-loop μ-loop
 unfolding findings brokenAt
@@ -208,19 +209,19 @@ find-spec =
     add-rule
     places-requires
     loop2-holds
-    cast-t21
-    mul-t22
-    array-copy-out-t25
-    cast-t26
-    mul-t27
-    array-copy-out-t30
-    cast-t31
-    mul-t32
-    array-copy-out-t35
+    cast-t22
+    mul-t23
+    array-copy-out-t26
+    cast-t27
+    mul-t28
+    array-copy-out-t31
+    cast-t32
+    mul-t33
+    array-copy-out-t36
     ground-of-requires
     broken-requires
     finding-at-requires
-    mul-t39
+    mul-t40
     element-set-from-found
     add-count
     add-i

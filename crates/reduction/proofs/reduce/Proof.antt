@@ -6,7 +6,9 @@ use Rattle.reduction.proofs.ClearJobs.{few-runs, count-of-runs, count-o
 use Prim.Native.Nat.{ℕ}
 use mathlib.Core.List.{List}
 use lib.ListN.{getD}
+use Rattle.readings.specs.declared.headers.Version.{Version}
 use Rattle.records.specs.declared.Run.{Run}
+use Rattle.opening.specs.Opening.{versionOf}
 use Rattle.heads.specs.Values.{certificateOf}
 use Rattle.job.specs.declared.Job.{Job}
 use Rattle.job.specs.Places.{runOf}
@@ -21,10 +23,10 @@ this-run {s} {j} {k} ok e = e ∙ ap (runAt s) (start-of s j (ok .job) k (ok .in
 ready : {s : List ℕ} {j : Job} {k : ℕ} {r : Run} → ClearRun s j k → r ≡ runAt s (getD (j .starts) k 0) → ReducibleFrom s (j .certificates) r
 ready {s} {j} {k} ok e = rw (this-run ok e) (workable s j (ok .job) k (ok .inside))
 
-is-reduced : {s : List ℕ} {j : Job} {k : ℕ} {r : Run} {done : Reduced} → ClearRun s j k → r ≡ runAt s (getD (j .starts) k 0) → done ≡ reduction (certificateOf s) (j .certificates) r → done ≡ reducedRun s k
+is-reduced : {s : List ℕ} {v : Version} {j : Job} {k : ℕ} {r : Run} {done : Reduced} → v ≡ versionOf s → ClearRun s j k → r ≡ runAt s (getD (j .starts) k 0) → done ≡ reduction v (certificateOf s) (j .certificates) r → done ≡ reducedRun s k
 unfolding reducedRun
-is-reduced {s} {j} {k} ok e ed =
-    ed ∙ rw (this-run ok e, count-of-certificates s j (ok .job))
+is-reduced {s} {v} {j} ev ok e ed =
+    ed ∙ rw (ev, this-run ok e, count-of-certificates s j (ok .job))
 
 version-requires : tie.Need-version-requires
 version-requires c κs =
@@ -50,7 +52,7 @@ work-requires : tie.Need-work-requires
 work-requires c κs = (c .before .before .version .ensures, ready (c .before .before .before .before .pre) (c .run .ensures))
 
 returns : tie.Need-returns
-returns c = is-reduced (c .before .before .before .before .before .pre) (c .before .run .ensures) (c .work .ensures)
+returns c = is-reduced (c .before .before .before .version .ensures) (c .before .before .before .before .before .pre) (c .before .run .ensures) (c .work .ensures)
 
 pub reduce-spec : {M : Type 1} → statement M
 reduce-spec = tie.close (tie.spec version-requires mul-run array-read-run run-requires work-requires returns)

@@ -1,6 +1,7 @@
 -- Each call's promise, one after another.
 use borrow.Author.Needs.{needs}
 use Rattle.findings.specs.Listing.{mostFindings, listed, findings, Worked}
+use Rattle.readings.specs.declared.headers.Version.{Version}
 use Rattle.records.specs.declared.Run.{Run}
 use Rattle.choosing.specs.declared.Chosen.{Chosen}
 use Rattle.lines.specs.declared.Lines.{Lines}
@@ -25,30 +26,37 @@ diameters-of-requires : tie.Need-diameters-of-requires
 diameters-of-requires c κs = search needs
 
 lines-requires : tie.Need-lines-requires
-lines-requires c κs = lines-workable _ _ _ (c .before .before .before .before .before .pre .1 .reducible) (c .before .before .before .choose-all .ensures) (c .before .before .factor-of .ensures) (c .before .coefficient-of .ensures) (c .diameters-of .ensures)
+lines-requires c κs = lines-workable _ _ _ _ (c .before .before .before .before .before .pre .1 .reducible) (c .before .before .before .choose-all .ensures) (c .before .before .factor-of .ensures) (c .before .coefficient-of .ensures) (c .diameters-of .ensures)
 
 find-requires : tie.Need-find-requires
 find-requires c κs =
     record {
       ok = c .before .before .before .before .before .before .pre .1 .reducible .run;
-      lines = lines-worked _ _ (c .before .before .before .factor-of .ensures) (c .before .before .coefficient-of .ensures) (c .before .diameters-of .ensures) (c .lines .ensures .0);
+      y = _;
+      cp = _;
+      nozzle = _;
+      is = c .lines .ensures .0;
     }
 
-worked-lines : (c : tie.After-find) → Worked (c .before .before .before .before .before .before .before .args .run) (c .before .before .before .before .before .choose-all .result) (c .before .lines .result)
-worked-lines c = find-requires (c .before) (tt {0})
-
-found-few : {r : Run} {ch : Chosen} {l : Lines} → Worked r ch l → listed (findings r ch l) .count ≤ mostFindings
+found-few : (v : Version) {r : Run} (ch : Chosen) {l : Lines} → Worked r l → listed (findings v r ch l) .count ≤ mostFindings
 unfolding listed
-found-few w = at-most _ _ _ w
+found-few v ch w = at-most v _ ch _ w
 
 accepted-requires : tie.Need-accepted-requires
-accepted-requires c κs = rw (c .find .ensures) (found-few (worked-lines c))
+accepted-requires c κs = rw (c .find .ensures) (found-few _ _ (find-requires (c .before) (tt {0})))
 
 sheet-requires : tie.Need-sheet-requires
 sheet-requires c κs = search needs
 
 returns : tie.Need-returns
-returns c = is-reduction _ _ _ (c .before .before .before .before .before .before .before .choose-all .ensures) (worked-lines (c .before .before) .lines) (c .before .before .find .ensures) (c .before .accepted .ensures) (c .sheet .ensures)
+returns c =
+    let worked = c .before .before .before in
+    let v = worked .before .before .before .before .before .before .args .v in
+    is-reduction v _ _ _ (worked .before .before .before .before .choose-all .ensures)
+    (lines-worked v _ _ (worked .before .before .before .factor-of .ensures) (worked .before .before .coefficient-of .ensures) (worked .before .diameters-of .ensures) (worked .lines .ensures .0))
+    (c .before .before .find .ensures)
+    (c .before .accepted .ensures)
+    (c .sheet .ensures)
 
 pub work-spec : {M : Type 1} → statement M
 work-spec =

@@ -1,9 +1,9 @@
 -- `place` is `placeAt`, rule by rule.
 use borrow.Author.Tests.{ne-eqb}
 use borrow.Author.Needs.{needs}
-use Rattle.rules.specs.Rules.{placeAt}
-use Rattle.rules.proofs.place.Statement.{statement}
-use Rattle.rules.proofs.place.Tie as tie
+use Rattle.classes.specs.Classes.{placeAt}
+use Rattle.classes.proofs.place.Statement.{statement}
+use Rattle.classes.proofs.place.Tie as tie
 
 add-result : tie.Need-add-result
 add-result c = search needs

@@ -1,8 +1,8 @@
 -- `places` is `placesOf`, rule by rule.
 use borrow.Author.Tests.{ne-eqb}
-use Rattle.rules.specs.Rules.{placesOf}
-use Rattle.rules.proofs.places.Statement.{statement}
-use Rattle.rules.proofs.places.Tie as tie
+use Rattle.classes.specs.Classes.{placesOf}
+use Rattle.classes.proofs.places.Statement.{statement}
+use Rattle.classes.proofs.places.Tie as tie
 
 returns : tie.Need-returns
 unfolding placesOf

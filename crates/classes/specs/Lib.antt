@@ -1,0 +1,2 @@
+-- The places and the classes of findings.
+pub mod Classes

@@ -1,0 +1,76 @@
+-- A meter that moved (docs/RULES.md, Choosing certificates): what each version makes of it, and why demand 3 compares two jobs of one version.
+use Prim.Native.Nat.{ℕ, _*_, _<_, min}
+use mathlib.Core.Path.{_≡_}
+use mathlib.Core.Bool.{true}
+use mathlib.Core.List.{List, [], _∷_}
+use Rattle.readings.specs.declared.headers.Version.the-variants.{One, Two}
+use Rattle.records.specs.declared.Certificate.{Certificate}
+use Rattle.records.specs.declared.Run.{Run}
+use Rattle.values.specs.declared.Value.{Value}
+use Rattle.values.specs.declared.Value.the-variants.{Known, Missing}
+use Rattle.lines.specs.Starred.{workedLines}
+use Rattle.choosing.specs.declared.Lookup.{Lookup}
+use Rattle.choosing.specs.declared.Lookup.the-variants.{Found, Nothing}
+use Rattle.choosing.specs.declared.Chosen.{Chosen}
+use Rattle.grounds.specs.Comparing.{apart}
+use Rattle.factors.specs.Factor.{factorOf}
+use Rattle.classes.specs.Classes.{note, classOf}
+use Rattle.findings.specs.Listing.{accepted, linesFor, findingsFor, Breaks}
+use Rattle.opening.specs.Opening.{versionOf}
+use Rattle.job.specs.Worked.{movedJob}
+use Rattle.reduction.specs.Reducing.{chosenIn}
+use Rattle.demands.specs.Demands.{SameRecords}
+use Rattle.demands.specs.Starred.{PrintedAs}
+
+-- the factor of a certificate, where it was found
+abbrev pub ownFactor : Lookup → Value
+ownFactor Nothing = Missing
+ownFactor (Found c) = Known (c .first)
+
+-- twenty times the difference of two factors is above the first
+abbrev pub Moved : ℕ → ℕ → Type 0
+Moved before after = before < 20 * apart before after
+
+-- In version 1 a finding of rule 5 is a note, and Y is the lower factor where it moved, and otherwise the before factor
+pub record LowerAndNote (ch : Chosen) : Type 0 where
+  pub class : classOf One 5 ≡ note
+  pub moved :
+      (b a : Certificate)
+      → ch .before ≡ Found b
+      → ch .after ≡ Found a
+      → Moved (b .first) (a .first)
+      → factorOf One ch ≡ Known (min (b .first) (a .first))
+  pub stayed :
+      (b a : Certificate)
+      → ch .before ≡ Found b
+      → ch .after ≡ Found a
+      → (Moved (b .first) (a .first) → ⊥)
+      → factorOf One ch ≡ Known (b .first)
+  pub alone : ch .after ≡ Nothing → factorOf One ch ≡ ownFactor (ch .before)
+
+-- In version 2 Y is always the before factor, and a run that breaks rule 5 is void
+pub record BeforeAndVoid (r : Run) (ch : Chosen) : Type 0 where
+  pub factor : factorOf Two ch ≡ ownFactor (ch .before)
+  pub void : Breaks r ch (linesFor Two r ch) 5 0 → accepted (findingsFor Two r ch) ≡ true → ⊥
+
+-- the worked job's lines with the lower factor, 9,499
+abbrev pub lowerLines : List ℕ
+lowerLines =
+    3600 ∷ 40000 ∷ 39400 ∷ 301471 ∷ 5400 ∷ 36857 ∷ 4707 ∷ 11325 ∷ 30160 ∷ 28783
+    ∷ 299500 ∷ 6600 ∷ 70711 ∷ 8750 ∷ 44431 ∷ 34089 ∷ 86556 ∷ 9525 ∷ 1056 ∷ 4421 ∷ []
+
+-- in version 1: accepted, with notes of rules 5 and 11 and the lower factor's lines
+abbrev pub Kept : Type 0
+Kept = PrintedAs (movedJob One) 2 65538 lowerLines (5 ∷ 2 ∷ 0 ∷ 0 ∷ 11 ∷ 2 ∷ 1 ∷ 0 ∷ [])
+
+-- in version 2: void, with a fault of rule 5, the note of rule 11 and the before factor's lines, those of the worked job
+abbrev pub Voided : Type 0
+Voided = PrintedAs (movedJob Two) 2 2 (workedLines .expected) (5 ∷ 1 ∷ 0 ∷ 0 ∷ 11 ∷ 2 ∷ 1 ∷ 0 ∷ [])
+
+-- The counter-example: the same records in both versions, another Y, another answer
+pub record AnotherY : Type 0 where
+  pub same : SameRecords (movedJob One) (movedJob Two) 7
+  pub lower : factorOf (versionOf (movedJob One)) (chosenIn (movedJob One) 0) ≡ Known 9499
+  pub before : factorOf (versionOf (movedJob Two)) (chosenIn (movedJob Two) 0) ≡ Known 10000
+  pub kept : Kept
+  pub voided : Voided
