@@ -71,14 +71,16 @@ fn told(made: Result<Outcome, String>) -> String {
 /// job itself.
 pub fn agreed_on_twin(
     proved: &Proved,
-    calls: &[Call],
-    on_job: &[Outcome],
+    on_job: &[(Call, &Outcome)],
     twin: &[u8],
 ) -> Result<(), Difference> {
     let [fill, _] = proved.fills();
-    let trials: Vec<Trial> = calls.iter().map(|&call| Trial { call, fill }).collect();
+    let trials: Vec<Trial> = on_job
+        .iter()
+        .map(|&(call, _)| Trial { call, fill })
+        .collect();
     let on_twin = proved.made(&trials, twin);
-    for ((trial, on_job), on_twin) in trials.iter().zip(on_job).zip(on_twin) {
+    for ((trial, &(_, on_job)), on_twin) in trials.iter().zip(on_job).zip(on_twin) {
         if on_twin.as_ref() != Ok(on_job) {
             return Err(Difference {
                 what: format!("{trial}, on the job and on its twin in the other version"),

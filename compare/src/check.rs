@@ -1,6 +1,6 @@
 //! Everything that is compared on one job: each call of the library in several
-//! ways, its runs with those of its twin in the other version, or the program's
-//! printed sheet.
+//! ways, its runs with those of its twin in the other version, but for moved factors,
+//! or the program's printed sheet.
 
 use std::io::{self, Write};
 use std::process::Stdio;
@@ -13,7 +13,7 @@ use crate::call::{Outcome, FINDING_LENGTH, LINES_LENGTH};
 use crate::case::Expected;
 use crate::proved::Proved;
 use crate::tally::Tally;
-use crate::versions::twin;
+use crate::versions::{in_twin, twin, InTwin};
 
 /// Room for the lines and findings of any run, and then some.
 const ROOMY_LINES: usize = LINES_LENGTH + 11;
@@ -66,27 +66,33 @@ fn reduced(
         .map(|number| reduce(number, ROOMY_LINES, ROOMY_FINDINGS))
         .collect();
     let reduced = agreed(proved, &roomy, job)?;
-    let has_twin = same_in_twin(proved, read, &roomy, &reduced)?;
+    let in_twin = compared_with_twin(proved, read, &roomy, &reduced)?;
     let mut others = Vec::new();
-    for (run, reduced) in read.runs.iter().zip(&reduced) {
-        tally.count_reduced(read, run, has_twin, reduced);
+    for ((run, reduced), in_twin) in read.runs.iter().zip(&reduced).zip(in_twin) {
+        tally.count_reduced(read, run, in_twin, reduced);
         others.extend(about_need(run.number, FINDING_LENGTH * reduced.findings()));
     }
     Ok(others)
 }
 
-/// Whether the job has a twin in the other version, on which the calls then come to
-/// the same.
-fn same_in_twin(
+/// Compares the runs with those of the job's twin, if it has one, but for those that
+/// are left out. Answers how each stands to its own there.
+fn compared_with_twin(
     proved: &Proved,
     job: &Job,
     calls: &[Call],
     on_job: &[Outcome],
-) -> Result<bool, Difference> {
-    match twin(job) {
-        Some(twin) => agreed_on_twin(proved, calls, on_job, &twin.bytes()).map(|()| true),
-        None => Ok(false),
+) -> Result<Vec<InTwin>, Difference> {
+    let runs: Vec<InTwin> = job.runs.iter().map(|run| in_twin(job, run)).collect();
+    if let Some(twin) = twin(job) {
+        let on_job = calls.iter().copied().zip(on_job).zip(&runs);
+        let same: Vec<(Call, &Outcome)> = on_job
+            .filter(|&(_, in_twin)| *in_twin == InTwin::Same)
+            .map(|(on_job, _)| on_job)
+            .collect();
+        agreed_on_twin(proved, &same, &twin.bytes())?;
     }
+    Ok(runs)
 }
 
 /// The text of that length with room to spare, in an output that just serves, in

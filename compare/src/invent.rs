@@ -94,19 +94,16 @@ fn tune_isokinetic(random: &mut Random, job: &mut Job) {
         false => |exact| exact.is_above(11_000),
     };
     let tuned = random.below(job.runs.len());
-    let Job {
-        certificates, runs, ..
-    } = job;
-    let run = &mut runs[tuned];
+    let mut run = job.runs[tuned].clone();
     let first = run.first_reading;
     let (mut short, mut reached) = (0, MOST_METERED as u32);
     while short + 1 < reached {
         let middle = (short + reached) / 2;
         run.last_reading = first + middle;
-        match work(run, certificates).lines.isokinetic() {
+        match work(job, &run).lines.isokinetic() {
             Some(exact) if past(exact) => reached = middle,
             _ => short = middle,
         }
     }
-    run.last_reading = first + random.pick(&[short, reached]);
+    job.runs[tuned].last_reading = first + random.pick(&[short, reached]);
 }

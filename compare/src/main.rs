@@ -1,7 +1,8 @@
 //! Compares the proved library, and the program `sheet`, with the independent
 //! program, byte for byte, on jobs of either version, and fails where they disagree.
-//! A job without letters is compared with the same in the other version, too. What the
-//! jobs reached is counted and shown; a count that must not be 0 fails it too.
+//! A job without letters is compared with the same in the other version, too, but for
+//! its runs whose factor moved. What the jobs reached is counted and shown; a count that
+//! must not be 0 fails it too.
 //!
 //!     --sheet COMMAND   the program `sheet` (or set SHEET)
 //!     --library-only    leaves the program out, on purpose

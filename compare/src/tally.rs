@@ -10,6 +10,7 @@ use std::fmt;
 use independent::job::{Job, Run};
 
 use crate::call::{Outcome, FINDING_LENGTH, LINES_LENGTH, LINE_COUNT, LINE_LENGTH};
+use crate::versions::InTwin;
 use edges::{Reduced, Refused, Times, EDGES};
 
 /// The rules that there are: none has the number 13.
@@ -79,7 +80,7 @@ impl Tally {
     }
 
     /// Counts a successful reduce's verdict, findings, absent lines and edges too.
-    pub fn count_reduced(&mut self, job: &Job, run: &Run, has_twin: bool, outcome: &Outcome) {
+    pub fn count_reduced(&mut self, job: &Job, run: &Run, in_twin: InTwin, outcome: &Outcome) {
         self.count(outcome);
         if outcome.refusal() != 0 {
             return;
@@ -87,7 +88,7 @@ impl Tally {
         let reduced = Reduced {
             job,
             run,
-            has_twin,
+            in_twin,
             accepted: outcome.accepted(),
             lines: lines(outcome),
             findings: findings(outcome),
@@ -266,7 +267,7 @@ mod tests {
     use super::*;
     use crate::agreement::INDEPENDENT;
     use crate::call::{Fill, Trial};
-    use crate::versions::twin;
+    use crate::versions::in_twin;
 
     #[test]
     fn a_comparison_without_a_text_has_not_reached_one() {
@@ -290,7 +291,7 @@ mod tests {
             };
             let fill = Fill::Pattern;
             let outcome = Trial { call, fill }.made(&INDEPENDENT, &job.bytes());
-            tally.count_reduced(job, run, twin(job).is_some(), &outcome);
+            tally.count_reduced(job, run, in_twin(job, run), &outcome);
         }
         tally
     }

@@ -1,7 +1,7 @@
 //! Jobs in either version of the file.
 
-use independent::job::{Job, Version, NO_LETTER};
-use independent::samples;
+use independent::job::{Job, Run, Version, NO_LETTER};
+use independent::{samples, Chosen};
 
 /// What an instrument of a sample has in version 2, by its serial: so each keeps its
 /// own certificates. The worked job's meter and nozzle have an A, its pitot a Z.
@@ -51,19 +51,71 @@ pub fn twin(job: &Job) -> Option<Job> {
     (!lettered).then_some(twin)
 }
 
+/// How a run stands to the same run of its job's twin.
+#[derive(Clone, Copy, Debug, PartialEq, Eq)]
+pub enum InTwin {
+    /// The job has a letter, and no twin.
+    NoTwin,
+    /// Both must come to the same.
+    Same,
+    /// Its factor moved, on which the versions differ by rule.
+    LeftOut,
+}
+
+pub fn in_twin(job: &Job, run: &Run) -> InTwin {
+    match twin(job) {
+        None => InTwin::NoTwin,
+        Some(_) if factor_moved(job, run) => InTwin::LeftOut,
+        Some(_) => InTwin::Same,
+    }
+}
+
+/// Whether the factor of the run's meter moved by more than 5 percent.
+pub fn factor_moved(job: &Job, run: &Run) -> bool {
+    Chosen::for_run(run, &job.certificates).factor_moved()
+}
+
 #[cfg(test)]
 mod tests {
     use independent::sheet;
 
     use super::*;
 
+    /// The sheet of each run alone.
+    fn sheets(job: &Job) -> Vec<Vec<u8>> {
+        let runs = job.runs.iter();
+        let alone = runs.map(|run| Job {
+            runs: vec![run.clone()],
+            ..job.clone()
+        });
+        alone.map(|job| sheet(&job.bytes())).collect()
+    }
+
+    /// The numbers of a sample's runs whose sheets are not the same in version 2.
+    fn changed(sample: &Job) -> Vec<u16> {
+        let in_version_2 = in_version(Version::Two, sample.clone());
+        let both = sheets(sample).into_iter().zip(sheets(&in_version_2));
+        let runs = sample.runs.iter().zip(both);
+        runs.filter(|(_, (in_1, in_2))| in_1 != in_2)
+            .map(|(run, _)| run.number)
+            .collect()
+    }
+
     #[test]
     fn letters_change_no_sheet() {
         for sample in [samples::worked(), samples::several_runs()] {
             let lettered = in_version(Version::Two, sample.clone());
-            assert_eq!(sheet(&lettered.bytes()), sheet(&sample.bytes()));
+            let without = twin(&sample).expect("it has no letter");
+            assert_eq!(sheet(&lettered.bytes()), sheet(&without.bytes()));
             assert_eq!(in_version(Version::One, sample.clone()), sample);
         }
+    }
+
+    /// Runs 2 and 3 have the meter that came back with 9,700 for 10,300.
+    #[test]
+    fn the_version_changes_the_sheets_of_moved_factors_alone() {
+        assert_eq!(changed(&samples::worked()), []);
+        assert_eq!(changed(&samples::several_runs()), [2, 3]);
     }
 
     #[test]

@@ -1,6 +1,6 @@
 //! Choosing the certificates that count for a run.
 
-use crate::job::{Certificate, Instrument, Kind, Run};
+use crate::job::{Certificate, Instrument, Kind, Run, Version};
 
 /// A run's certificates; `None` where the job holds none so dated.
 pub struct Chosen<'a> {
@@ -32,12 +32,12 @@ impl<'a> Chosen<'a> {
         }
     }
 
-    /// Y in 1/10,000, known whenever the before certificate is there. An after
-    /// factor that moved counts only where it is the lower.
-    pub fn factor(&self) -> Option<u16> {
+    /// Y in 1/10,000, known whenever the before certificate is there. In version 1
+    /// an after factor that moved counts where it is the lower, in version 2 never.
+    pub fn factor(&self, version: Version) -> Option<u16> {
         let before = self.meter_before?.values[0];
-        match self.meter_after {
-            Some(after) if self.factor_moved() => Some(before.min(after.values[0])),
+        match (version, self.meter_after) {
+            (Version::One, Some(after)) if self.factor_moved() => Some(before.min(after.values[0])),
             _ => Some(before),
         }
     }
@@ -85,4 +85,28 @@ fn of(
     certificates
         .iter()
         .filter(move |certificate| certificate.kind == kind && certificate.instrument == instrument)
+}
+
+#[cfg(test)]
+mod tests {
+    use super::*;
+    use crate::samples;
+
+    /// Whether the factor moved from 10,000 to this one, and Y in either version.
+    fn moved(after: u16) -> (bool, [Option<u16>; 2]) {
+        let mut job = samples::worked();
+        job.certificates[1].values[0] = after;
+        let chosen = Chosen::for_run(&job.runs[0], &job.certificates);
+        let factors = Version::ALL.map(|version| chosen.factor(version));
+        (chosen.factor_moved(), factors)
+    }
+
+    #[test]
+    fn the_after_factor_counts_in_version_1_where_it_moved_down() {
+        let before = [Some(10_000); 2];
+        assert_eq!(moved(10_500), (false, before));
+        assert_eq!(moved(10_501), (true, before));
+        assert_eq!(moved(9_500), (false, before));
+        assert_eq!(moved(9_499), (true, [Some(9_499), Some(10_000)]));
+    }
 }

@@ -2,16 +2,13 @@
 
 use crate::certificates::Chosen;
 use crate::diameter::{Diameter, GREATEST_SMALL_DIAMETER, LEAST_DIAMETER};
-use crate::job::{Run, Shape, Weighing, WeighingKind};
+use crate::job::{Run, Shape, Version, Weighing, WeighingKind};
 use crate::layout::grid;
 use crate::leak;
 use crate::lines::Lines;
 
 /// The place of a finding that is about the whole run.
 const WHOLE_RUN: u16 = 0;
-
-/// Rules that inform and leave the run accepted.
-const NOTES: [u8; 2] = [5, 11];
 
 /// The shortest time at a point, in seconds.
 const SHORTEST_POINT: u16 = 120;
@@ -27,55 +24,72 @@ const WIDEST_WEIGHT_DIFFERENCE: i64 = 5;
 const LEAST_ISOKINETIC: i64 = 9_000;
 const GREATEST_ISOKINETIC: i64 = 11_000;
 
+/// A fault makes the run void; a note informs and leaves it accepted.
+#[derive(Clone, Copy, Debug, PartialEq, Eq)]
+pub enum Class {
+    Fault = 1,
+    Note = 2,
+}
+
 #[derive(Clone, Copy, Debug, PartialEq, Eq)]
 pub struct Finding {
     pub rule: u8,
+    pub class: Class,
     pub place: u16,
 }
 
 impl Finding {
-    pub fn is_note(self) -> bool {
-        NOTES.contains(&self.rule)
-    }
-
-    pub fn is_fault(self) -> bool {
-        !self.is_note()
-    }
-
     pub fn bytes(self) -> [u8; 4] {
-        let class = if self.is_fault() { 1 } else { 2 };
         let [low, high] = self.place.to_le_bytes();
-        [self.rule, class, low, high]
+        [self.rule, self.class as u8, low, high]
+    }
+}
+
+/// The class of a rule in jobs of that version.
+fn class_of(version: Version, rule: u8) -> Class {
+    match (version, rule) {
+        (Version::One, 5) | (_, 11) => Class::Note,
+        _ => Class::Fault,
     }
 }
 
 /// Everything found about the run, in list order: each rule is asked once, in
 /// turn, and a rule about points, segments or weighings goes through them in
 /// file order.
-pub fn of(run: &Run, chosen: &Chosen, lines: &Lines) -> Vec<Finding> {
-    let mut list = List(Vec::new());
+pub fn of(version: Version, run: &Run, chosen: &Chosen, lines: &Lines) -> Vec<Finding> {
+    let mut list = List {
+        version,
+        found: Vec::new(),
+    };
     certificate_findings(&mut list, chosen);
     stack_findings(&mut list, run);
     sampling_findings(&mut list, run, lines);
     volume_findings(&mut list, lines);
     weighing_findings(&mut list, run, lines);
-    list.0
+    list.found
 }
 
-struct List(Vec<Finding>);
+struct List {
+    version: Version,
+    found: Vec<Finding>,
+}
 
 impl List {
+    fn add(&mut self, rule: u8, place: u16) {
+        let class = class_of(self.version, rule);
+        self.found.push(Finding { rule, class, place });
+    }
+
     fn whole_run(&mut self, rule: u8, found: bool) {
         if found {
-            let place = WHOLE_RUN;
-            self.0.push(Finding { rule, place });
+            self.add(rule, WHOLE_RUN);
         }
     }
 
     fn each<T>(&mut self, rule: u8, records: &[T], found: impl Fn(&T) -> bool) {
         for (record, place) in records.iter().zip(1..) {
             if found(record) {
-                self.0.push(Finding { rule, place });
+                self.add(rule, place);
             }
         }
     }
@@ -164,4 +178,19 @@ fn weighing_findings(list: &mut List, run: &Run, lines: &Lines) {
     list.whole_run(18, none_of(WeighingKind::Filter));
     list.whole_run(19, none_of(WeighingKind::Rinse));
     list.whole_run(20, lines.line(19).map_or(false, |catch| catch < 0));
+}
+
+#[cfg(test)]
+mod tests {
+    use super::*;
+
+    #[test]
+    fn rule_5_is_a_note_in_version_1_alone() {
+        let notes = |version| {
+            let mut rules: Vec<u8> = (1..=20).collect();
+            rules.retain(|&rule| class_of(version, rule) == Class::Note);
+            rules
+        };
+        assert_eq!(Version::ALL.map(notes), [vec![5, 11], vec![11]]);
+    }
 }

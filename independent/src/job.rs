@@ -15,7 +15,8 @@ pub const WEIGHING_LENGTH: usize = 14;
 pub const NO_LETTER: u8 = 0;
 
 /// A version of the job file. Version 2 has a byte behind each serial, for a
-/// letter; in version 1 every letter is none.
+/// letter; in version 1 every letter is none. Beside that they differ on a
+/// factor that moved: in its finding's class and in Y.
 #[derive(Clone, Copy, Debug, PartialEq, Eq)]
 pub enum Version {
     One = 1,

@@ -23,7 +23,8 @@ pub mod samples;
 mod worked;
 
 pub use answer::{Reason, Refusal};
-pub use findings::Finding;
+pub use certificates::Chosen;
+pub use findings::{Class, Finding};
 pub use layout::{rect_distances, round_distances};
 pub use lines::{Isokinetic, Lines, LINE_COUNT};
 pub use print::sheet;
@@ -54,7 +55,7 @@ fn reduced(
         .iter()
         .find(|run| run.number == run_number)
         .ok_or(Refusal::new(Reason::NoSuchRun, 0))?;
-    let worked = work(run, &job.certificates);
+    let worked = work(&job, run);
     worked.write(lines, findings)?;
     let accepted = if worked.accepted() { ACCEPTED } else { 0 };
     Ok(worked.findings.len() as u32 + accepted)

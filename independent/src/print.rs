@@ -1,7 +1,7 @@
 //! The printed sheet of a whole job.
 
 use crate::answer::{Reason, Refusal};
-use crate::findings::Finding;
+use crate::findings::{Class, Finding};
 use crate::job::Job;
 use crate::read::read;
 use crate::worked::{work, Worked};
@@ -29,7 +29,7 @@ pub fn write(job: &Job, out: &mut [u8]) -> Result<u32, Refusal> {
 fn runs(job: &Job) -> String {
     job.runs
         .iter()
-        .map(|run| run_text(run.number, &work(run, &job.certificates)))
+        .map(|run| run_text(run.number, &work(job, run)))
         .collect()
 }
 
@@ -57,6 +57,9 @@ fn line_text(number: u32, line: Option<i64>) -> String {
 }
 
 fn finding_text(finding: Finding) -> String {
-    let class = if finding.is_note() { "NOTE" } else { "FAULT" };
+    let class = match finding.class {
+        Class::Fault => "FAULT",
+        Class::Note => "NOTE",
+    };
     format!("{class} {} {}\n", finding.rule, finding.place)
 }

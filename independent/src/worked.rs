@@ -2,8 +2,8 @@
 
 use crate::answer::{Reason, Refusal};
 use crate::certificates::Chosen;
-use crate::findings::{self, Finding};
-use crate::job::{Certificate, Run};
+use crate::findings::{self, Class, Finding};
+use crate::job::{Job, Run};
 use crate::lines::{Lines, LINE_COUNT};
 
 /// Present 0 or 1, then the value as i64.
@@ -17,17 +17,18 @@ pub struct Worked {
     pub findings: Vec<Finding>,
 }
 
-pub fn work(run: &Run, certificates: &[Certificate]) -> Worked {
-    let chosen = Chosen::for_run(run, certificates);
-    let lines = Lines::of(run, &chosen);
-    let findings = findings::of(run, &chosen, &lines);
+/// Works out a run of the job.
+pub fn work(job: &Job, run: &Run) -> Worked {
+    let chosen = Chosen::for_run(run, &job.certificates);
+    let lines = Lines::of(job.version, run, &chosen);
+    let findings = findings::of(job.version, run, &chosen, &lines);
     Worked { lines, findings }
 }
 
 impl Worked {
     /// A run is accepted when nothing found is a fault; notes do not count.
     pub fn accepted(&self) -> bool {
-        !self.findings.iter().any(|finding| finding.is_fault())
+        self.findings.iter().all(|one| one.class == Class::Note)
     }
 
     /// Writes both outputs, or neither when either is too short.

@@ -1,12 +1,12 @@
 //! Values on either side of each limit.
 
-use independent::job::{Certificate, Job, Point, Run, Segment, Shape, WeighingKind};
-use independent::{samples, work, Finding, Worked};
+use independent::job::{Certificate, Job, Point, Run, Segment, Shape, Version, WeighingKind};
+use independent::{samples, work, Class, Finding, Worked};
 
 fn worked_with(change: impl Fn(&mut Job)) -> Worked {
     let mut job = samples::worked();
     change(&mut job);
-    work(&job.runs[0], &job.certificates)
+    work(&job, &job.runs[0])
 }
 
 fn run_with(change: impl Fn(&mut Run)) -> Worked {
@@ -54,27 +54,39 @@ fn leaks_drawing_more_than_was_metered_leave_nothing() {
 #[test]
 fn the_least_dry_volume_is_not_0() {
     let job = samples::thinnest();
-    let worked = work(&job.runs[0], &job.certificates);
+    let worked = work(&job, &job.runs[0]);
     let lines: Vec<_> = (3..=6).map(|line| worked.lines.line(line)).collect();
     // 1764·1·9000·200000/(10^9·6100) is 0.52.
     assert_eq!(lines, [1, 200_000, 6_100, 1].map(Some));
     assert!(worked.lines.line(8).is_some() && worked.lines.line(20).is_some());
 }
 
-/// (note 5 found, line 6) with that after factor, the before factor 10,000.
-fn with_after_factor(factor: u16) -> (bool, Option<i64>) {
-    let worked = worked_with(|job| job.certificates[1].values[0] = factor);
-    (found(&worked, 5), worked.lines.line(6))
+/// The class of finding 5, if it is found, whether the run stands, and its line 6, with
+/// that after factor, the before factor being 10,000.
+fn with_after_factor(version: Version, factor: u16) -> (Option<Class>, bool, Option<i64>) {
+    let worked = worked_with(|job| {
+        job.version = version;
+        job.certificates[1].values[0] = factor;
+    });
+    let mut findings = worked.findings.iter();
+    let class = findings.find(|one| one.rule == 5).map(|one| one.class);
+    (class, worked.accepted(), worked.lines.line(6))
 }
 
 #[test]
 fn factor_moves_past_five_percent() {
-    let unmoved = Some(38_801);
-    assert_eq!(with_after_factor(10_500), (false, unmoved));
-    assert_eq!(with_after_factor(10_501), (true, unmoved));
-    assert_eq!(with_after_factor(9_500), (false, unmoved));
-    // 1764·39400·9499·301471/(10^9·5400) is 36857.4.
-    assert_eq!(with_after_factor(9_499), (true, Some(36_857)));
+    // 1764·39400·Y·301471/(10^9·5400) for Y 10,000 and 9,499, where it is 36857.4.
+    let [before, after] = [38_801, 36_857].map(Some);
+    let [note, fault] = [Class::Note, Class::Fault].map(Some);
+    for version in Version::ALL {
+        let kept = (None, true, before);
+        assert_eq!(with_after_factor(version, 9_500), kept);
+        assert_eq!(with_after_factor(version, 10_500), kept);
+    }
+    let [in_1, in_2] =
+        Version::ALL.map(|version| [9_499, 10_501].map(|one| with_after_factor(version, one)));
+    assert_eq!(in_1, [(note, true, after), (note, true, before)]);
+    assert_eq!(in_2, [(fault, false, before); 2]);
 }
 
 #[test]
@@ -118,9 +130,7 @@ fn judged(worked: &Worked) -> (Option<i64>, bool, bool) {
 fn isokinetic_limits() {
     let job = samples::percent_limits();
     let runs = job.runs.iter();
-    let runs: Vec<_> = runs
-        .map(|run| judged(&work(run, &job.certificates)))
-        .collect();
+    let runs: Vec<_> = runs.map(|run| judged(&work(&job, run))).collect();
     assert_eq!(
         runs,
         [
@@ -301,10 +311,12 @@ fn final_weights_about_one_percent_of_the_net_apart() {
 fn weighing_limits() {
     let job = samples::weighing_limits();
     let runs = job.runs.iter();
-    let found: Vec<_> = runs
-        .map(|run| work(run, &job.certificates).findings)
-        .collect();
-    let unsteady = [Finding { rule: 17, place: 1 }];
+    let found: Vec<_> = runs.map(|run| work(&job, run).findings).collect();
+    let unsteady = [Finding {
+        rule: 17,
+        class: Class::Fault,
+        place: 1,
+    }];
     let expected: [&[Finding]; 6] = [&[], &unsteady, &[], &unsteady, &[], &unsteady];
     assert_eq!(found, expected);
 }

@@ -143,7 +143,7 @@ fn missing(used: u8, certified: u8, by: fn(&mut Run) -> &mut Instrument) -> Vec<
         instrument.letter = certified;
     }
     by(&mut job.runs[0]).letter = used;
-    let findings = work(&job.runs[0], &job.certificates).findings.into_iter();
+    let findings = work(&job, &job.runs[0]).findings.into_iter();
     findings
         .map(|finding| finding.rule)
         .filter(|rule| (1..=4).contains(rule))
@@ -186,28 +186,44 @@ fn reduced(job: &Job) -> Vec<(u64, [u8; 180], [u8; 392])> {
     .collect()
 }
 
+/// The numbers of a job's runs that come to something else in version 2.
+fn unlike_in_version_2(job: &Job) -> Vec<u16> {
+    let twin = Job {
+        version: Version::Two,
+        ..job.clone()
+    };
+    assert_eq!(
+        read(&twin.bytes()).map(|twin| twin.version),
+        Ok(Version::Two)
+    );
+    let both = reduced(job).into_iter().zip(reduced(&twin));
+    let runs = job.runs.iter().zip(both);
+    let unlike: Vec<u16> = runs
+        .filter(|(_, (reduced, in_twin))| reduced != in_twin)
+        .map(|(run, _)| run.number)
+        .collect();
+    let same_sheet = sheet(&twin.bytes()) == sheet(&job.bytes());
+    assert_eq!(same_sheet, unlike.is_empty());
+    unlike
+}
+
 #[test]
-fn a_job_of_version_1_comes_to_the_same_in_version_2() {
+fn a_run_of_version_1_comes_to_the_same_in_version_2() {
     for job in [
         samples::worked(),
         samples::thinnest(),
-        samples::several_runs(),
         samples::percent_limits(),
         samples::weighing_limits(),
         samples::rebuilt_meter_no_letter(),
         samples::longest(),
     ] {
-        let twin = Job {
-            version: Version::Two,
-            ..job.clone()
-        };
-        assert_eq!(
-            read(&twin.bytes()).map(|twin| twin.version),
-            Ok(Version::Two)
-        );
-        assert_eq!(reduced(&twin), reduced(&job));
-        assert_eq!(sheet(&twin.bytes()), sheet(&job.bytes()));
+        assert_eq!(unlike_in_version_2(&job), []);
     }
+}
+
+#[test]
+fn a_run_whose_factor_moved_comes_to_something_else_in_version_2() {
+    assert_eq!(unlike_in_version_2(&samples::several_runs()), [2, 3]);
 }
 
 /// Letters tell its instruments apart as the serials do those of version 1.
@@ -232,7 +248,7 @@ fn without_letters(mut job: Job) -> Job {
 /// Whether each run of the job stands, and its line 6.
 fn verdicts(job: &Job) -> Vec<(bool, Option<i64>)> {
     let runs = job.runs.iter();
-    runs.map(|run| work(run, &job.certificates))
+    runs.map(|run| work(job, run))
         .map(|worked| (worked.accepted(), worked.lines.line(6)))
         .collect()
 }

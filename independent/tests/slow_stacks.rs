@@ -54,9 +54,9 @@ fn every_slow_velocity_is_within_a_unit_of_the_exact_one() {
 
 fn lines_at(head: u16) -> Lines {
     let mut job = samples::worked();
-    let run = &mut job.runs[0];
-    run.points.iter_mut().for_each(|p| p.velocity_head = head);
-    work(run, &job.certificates).lines
+    let points = job.runs[0].points.iter_mut();
+    points.for_each(|p| p.velocity_head = head);
+    work(&job, &job.runs[0]).lines
 }
 
 /// Line 15 from a root in the fourth place, over 10^10, as it was.

@@ -3,12 +3,13 @@
 
 use independent::job::{Job, Run, Version};
 
+use crate::versions::InTwin;
+
 /// A run that was read, and what was written of it.
 pub struct Reduced<'a> {
     pub job: &'a Job,
     pub run: &'a Run,
-    /// Whether the job has a twin in the other version, which gave the same.
-    pub has_twin: bool,
+    pub in_twin: InTwin,
     pub accepted: bool,
     pub lines: Vec<Option<i64>>,
     /// Rule and place of each finding.
@@ -52,7 +53,7 @@ const SLOW_ROOT: i64 = 10_000;
 const STEADY: i64 = 5;
 
 #[rustfmt::skip]
-pub const EDGES: [Edge; 29] = [
+pub const EDGES: [Edge; 31] = [
     edge("line 6 at its least, 1", |run| run.at(6, 1)),
     edge("a slow stack, line 13 from 1 to 10000", |run| run.slow_stack()),
     edge("line 18 at 8999 and rule 15 broken", |run| run.broken_at(15, 8_999)),
@@ -93,8 +94,10 @@ pub const EDGES: [Edge; 29] = [
     edge("two certificates that differ by the letter alone, one of them chosen", |run| run.told_apart_by_letter()),
     edge("a run of version 1", |run| run.of_version(Version::One)),
     edge("a run of version 2", |run| run.of_version(Version::Two)),
-    edge("a run of version 1 that is the same in version 2", |run| run.same_in_twin(Version::One)),
-    edge("a run of version 2 that is the same in version 1", |run| run.same_in_twin(Version::Two)),
+    edge("a run of version 1 that is the same in version 2", |run| run.stands_in_twin(Version::One, InTwin::Same)),
+    edge("a run of version 2 that is the same in version 1", |run| run.stands_in_twin(Version::Two, InTwin::Same)),
+    edge("a run of version 1 left out of the check against its twin, because its factor moved", |run| run.stands_in_twin(Version::One, InTwin::LeftOut)),
+    edge("a run of version 2 left out of the check against its twin, because its factor moved", |run| run.stands_in_twin(Version::Two, InTwin::LeftOut)),
     refusal("a bad letter refused", |refused| refused.for_letter()),
 ];
 
@@ -145,7 +148,7 @@ impl Reduced<'_> {
         usize::from(self.job.version == version)
     }
 
-    fn same_in_twin(&self, version: Version) -> usize {
-        usize::from(self.has_twin) * self.of_version(version)
+    fn stands_in_twin(&self, version: Version, in_twin: InTwin) -> usize {
+        usize::from(self.in_twin == in_twin) * self.of_version(version)
     }
 }
