@@ -109,4 +109,17 @@ mod tests {
         assert_eq!(moved(9_500), (false, before));
         assert_eq!(moved(9_499), (true, [Some(9_499), Some(10_000)]));
     }
+
+    #[test]
+    fn one_certificate_moves_no_factor() {
+        let job = samples::moved_factor();
+        let run = &job.runs[2];
+        let factors = |certificates: &[Certificate]| {
+            let chosen = Chosen::for_run(run, certificates);
+            assert!(!chosen.factor_moved());
+            Version::ALL.map(|version| chosen.factor(version))
+        };
+        assert_eq!(factors(&job.certificates[4..5]), [Some(10_000); 2]);
+        assert_eq!(factors(&job.certificates[5..6]), [None; 2]);
+    }
 }

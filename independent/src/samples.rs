@@ -1,7 +1,7 @@
 //! Jobs worth showing: the worked job of docs/RULES.md, one of several runs, one at the
 //! limits of the percent isokinetic, one at those of a weighing, one with a rebuilt meter
-//! and the same without its letter, one that is refused, and the longest that a file of
-//! each version can hold.
+//! and the same without its letter, one with factors that moved in each version, one that
+//! is refused, and the longest that a file of each version can hold.
 
 use crate::job::*;
 
@@ -360,6 +360,39 @@ pub fn rebuilt_meter_no_letter() -> Job {
         instrument.letter = NO_LETTER;
     }
     job
+}
+
+/// Three meters whose factor was 10,000 when the worked run was sampled with them. It is
+/// then 5 percent higher, which is not too much; higher by more; lower by more.
+pub fn moved_factor() -> Job {
+    let [steady, risen, fallen] = [10_442, 10_443, 10_444].map(|serial| instrument(b"ABC", serial));
+    let sampled = |number, meter| Run {
+        number,
+        meter,
+        ..worked_run()
+    };
+    Job {
+        version: Version::One,
+        certificates: vec![
+            meter(steady, CALIBRATED, 10_000),
+            meter(steady, RECALIBRATED, 10_500),
+            meter(risen, CALIBRATED, 10_000),
+            meter(risen, RECALIBRATED, 10_501),
+            meter(fallen, CALIBRATED, 10_000),
+            meter(fallen, RECALIBRATED, 9_499),
+            pitot(PITOT, CALIBRATED, 840),
+            nozzle(NOZZLE, CALIBRATED, [250, 250, 250]),
+        ],
+        runs: vec![sampled(7, steady), sampled(8, risen), sampled(9, fallen)],
+    }
+}
+
+/// The same in version 2: the two runs whose factor moved are void, and every Y is 10,000.
+pub fn moved_factor_version_2() -> Job {
+    Job {
+        version: Version::Two,
+        ..moved_factor()
+    }
 }
 
 /// Refused with 5: the third point's stack temperature is -40.1 F.

@@ -52,6 +52,18 @@ fn examples_are_current() {
         example!("rebuilt-meter-no-letter.txt"),
     );
     check(
+        "moved-factor",
+        &samples::moved_factor(),
+        example!("moved-factor.job"),
+        example!("moved-factor.txt"),
+    );
+    check(
+        "moved-factor-version-2",
+        &samples::moved_factor_version_2(),
+        example!("moved-factor-version-2.job"),
+        example!("moved-factor-version-2.txt"),
+    );
+    check(
         "refused",
         &samples::refused(),
         example!("refused.job"),

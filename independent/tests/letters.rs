@@ -97,6 +97,8 @@ fn what_is_written_is_read_back() {
         samples::worked(),
         samples::rebuilt_meter(),
         samples::rebuilt_meter_no_letter(),
+        samples::moved_factor(),
+        samples::moved_factor_version_2(),
         samples::longest(),
         samples::longest_version_2(),
     ] {
@@ -224,6 +226,7 @@ fn a_run_of_version_1_comes_to_the_same_in_version_2() {
 #[test]
 fn a_run_whose_factor_moved_comes_to_something_else_in_version_2() {
     assert_eq!(unlike_in_version_2(&samples::several_runs()), [2, 3]);
+    assert_eq!(unlike_in_version_2(&samples::moved_factor()), [8, 9]);
 }
 
 /// Letters tell its instruments apart as the serials do those of version 1.

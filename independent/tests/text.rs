@@ -16,6 +16,8 @@ fn an_output_of_the_exact_length_is_filled() {
         samples::worked(),
         samples::several_runs(),
         samples::rebuilt_meter(),
+        samples::moved_factor(),
+        samples::moved_factor_version_2(),
         samples::longest(),
         samples::longest_version_2(),
     ] {

@@ -19,6 +19,12 @@ fn main() -> io::Result<()> {
         "rebuilt-meter-no-letter",
         &samples::rebuilt_meter_no_letter(),
     )?;
+    write_with_sheet(folder, "moved-factor", &samples::moved_factor())?;
+    write_with_sheet(
+        folder,
+        "moved-factor-version-2",
+        &samples::moved_factor_version_2(),
+    )?;
     write_with_sheet(folder, "refused", &samples::refused())?;
     write(folder, "longest", &samples::longest().bytes())?;
     write(
