@@ -5,7 +5,7 @@
 use std::io::{self, Write};
 use std::process::Stdio;
 
-use independent::job::Job;
+use independent::job::{Job, Run, Version};
 use leverbonnet::pipe::{Call, CommandLine};
 
 use crate::agreement::{agreed, agreed_as_expected, agreed_on_twin, Difference};
@@ -13,7 +13,7 @@ use crate::call::{Outcome, FINDING_LENGTH, LINES_LENGTH};
 use crate::case::Expected;
 use crate::proved::Proved;
 use crate::tally::Tally;
-use crate::versions::{in_twin, twin, InTwin};
+use crate::versions::{factor_moved, in_twin, twin, InTwin};
 
 /// Room for the lines and findings of any run, and then some.
 const ROOMY_LINES: usize = LINES_LENGTH + 11;
@@ -69,6 +69,7 @@ fn reduced(
     let in_twin = compared_with_twin(proved, read, &roomy, &reduced)?;
     let mut others = Vec::new();
     for ((run, reduced), in_twin) in read.runs.iter().zip(&reduced).zip(in_twin) {
+        void_where_moved(read, run, reduced)?;
         tally.count_reduced(read, run, in_twin, reduced);
         others.extend(about_need(run.number, FINDING_LENGTH * reduced.findings()));
     }
@@ -93,6 +94,19 @@ fn compared_with_twin(
         agreed_on_twin(proved, &same, &twin.bytes())?;
     }
     Ok(runs)
+}
+
+/// A run of version 2 whose factor moved is void, whatever both sides agree on.
+fn void_where_moved(job: &Job, run: &Run, reduced: &Outcome) -> Result<(), Difference> {
+    let moved = job.version == Version::Two && factor_moved(job, run);
+    match moved && reduced.accepted() {
+        true => Err(Difference::of_sides(
+            format!("run {} of version 2, whose factor moved", run.number),
+            "accepted",
+            "the same",
+        )),
+        false => Ok(()),
+    }
 }
 
 /// The text of that length with room to spare, in an output that just serves, in
@@ -172,19 +186,22 @@ fn printed_by(program: &CommandLine, job: &[u8]) -> io::Result<Vec<u8>> {
 
 #[cfg(test)]
 mod tests {
-    use independent::job::{Version, NO_LETTER};
-    use independent::{read, samples};
+    use independent::job::NO_LETTER;
+    use independent::{read, samples, work, Class, ACCEPTED};
 
     use super::*;
     use crate::agreement::INDEPENDENT;
-    use crate::call::Side;
+    use crate::call::{Fill, Side, Trial};
     use crate::cases::random;
+    use crate::versions::{moved_factor, other};
+
+    type Reduce = fn(&[u8], u16, &mut [u8], &mut [u8]) -> u64;
+
+    /// What is said of a difference from a job's twin.
+    const ON_TWIN: &str = "on its twin in the other version";
 
     /// Where the independent program and one with another `reduce` part on a job.
-    fn difference(
-        reduce: fn(&[u8], u16, &mut [u8], &mut [u8]) -> u64,
-        job: &[u8],
-    ) -> Option<String> {
+    fn difference(reduce: Reduce, job: &[u8]) -> Option<String> {
         let other = Side {
             reduce,
             ..INDEPENDENT
@@ -195,7 +212,12 @@ mod tests {
 
     #[test]
     fn a_side_that_is_the_same_does_not_part() {
-        for job in [samples::worked(), samples::rebuilt_meter()] {
+        for job in [
+            samples::worked(),
+            samples::rebuilt_meter(),
+            samples::moved_factor(),
+            samples::moved_factor_version_2(),
+        ] {
             assert_eq!(difference(independent::reduce, &job.bytes()), None);
         }
     }
@@ -210,7 +232,118 @@ mod tests {
             answer
         };
         let what = difference(off, &samples::worked().bytes()).expect("its twin differs");
-        assert!(what.contains("on its twin in the other version"), "{what}");
+        assert!(what.contains(ON_TWIN), "{what}");
+    }
+
+    /// On the one run of the sample that is not left out.
+    #[test]
+    fn a_side_that_is_off_in_version_2_parts_on_a_factor_that_did_not_move() {
+        let off = |job: &[u8], run: u16, lines: &mut [u8], findings: &mut [u8]| {
+            let answer = independent::reduce(job, run, lines, findings);
+            if job[3] == 2 && run == 7 && answer >> 32 == 0 {
+                lines[1] += 1;
+            }
+            answer
+        };
+        let [in_1, in_2] = on_moved_factors(off);
+        let what = in_1.expect("its twin differs");
+        assert!(what.contains(ON_TWIN) && what.contains("run: 7,"), "{what}");
+        assert!(!in_2.expect("it differs").contains(ON_TWIN));
+    }
+
+    /// Where they part on the sample of moved factors in each version.
+    fn on_moved_factors(reduce: Reduce) -> [Option<String>; 2] {
+        Version::ALL.map(|version| difference(reduce, &moved_factor(version).bytes()))
+    }
+
+    /// They part on jobs of that version, and not as twins of the other's.
+    fn parts_on_moved_factors_of(version: Version, reduce: Reduce) {
+        let [in_1, in_2] = on_moved_factors(reduce);
+        let (parting, agreeing) = match version {
+            Version::One => (in_1, in_2),
+            Version::Two => (in_2, in_1),
+        };
+        assert!(!parting.expect("the sides part").contains(ON_TWIN));
+        assert_eq!(agreeing, None);
+
+        assert!(parting_random_jobs(version, reduce) > 0);
+        assert_eq!(parting_random_jobs(other(version), reduce), 0);
+    }
+
+    /// How many of the random jobs of that version they part on.
+    fn parting_random_jobs(version: Version, reduce: Reduce) -> usize {
+        let cases = random::cases(version, 100);
+        let jobs = cases.map(|case| case.subject.bytes());
+        jobs.filter(|job| difference(reduce, job).is_some()).count()
+    }
+
+    #[test]
+    fn a_side_that_takes_the_lower_factor_in_version_2_parts() {
+        let lower = |job: &[u8], number: u16, lines: &mut [u8], findings: &mut [u8]| {
+            let answer = independent::reduce(job, number, lines, findings);
+            if answer >> 32 == 0 {
+                let mut job = read(job).expect("it was reduced");
+                job.version = Version::One;
+                let mut runs = job.runs.iter();
+                let run = runs.find(|run| run.number == number);
+                let worked = work(&job, run.expect("it was reduced"));
+                let written = worked.write(lines, &mut [0; ROOMY_FINDINGS]);
+                written.expect("there is room");
+            }
+            answer
+        };
+        parts_on_moved_factors_of(Version::Two, lower);
+    }
+
+    /// The independent `reduce`, but for the class of rule 5 in that version.
+    fn with_class<const VERSION: u8, const CLASS: u8>(
+        job: &[u8],
+        run: u16,
+        lines: &mut [u8],
+        findings: &mut [u8],
+    ) -> u64 {
+        let answer = independent::reduce(job, run, lines, findings);
+        if job[3] == VERSION && answer >> 32 == 0 {
+            let count = answer as u32 % ACCEPTED;
+            let findings = findings.chunks_mut(FINDING_LENGTH).take(count as usize);
+            for finding in findings.filter(|finding| finding[0] == 5) {
+                finding[1] = CLASS;
+            }
+        }
+        answer
+    }
+
+    #[test]
+    fn a_side_that_gives_a_note_in_version_2_parts() {
+        let note = with_class::<2, { Class::Note as u8 }>;
+        parts_on_moved_factors_of(Version::Two, note);
+    }
+
+    #[test]
+    fn a_side_that_gives_a_fault_in_version_1_parts() {
+        let fault = with_class::<1, { Class::Fault as u8 }>;
+        parts_on_moved_factors_of(Version::One, fault);
+    }
+
+    /// The runs of the sample of moved factors that would not do if they were accepted.
+    fn to_be_void(version: Version) -> Vec<u16> {
+        let accepting = Side {
+            reduce: |_, _, _, _| u64::from(ACCEPTED),
+            ..INDEPENDENT
+        };
+        let job = moved_factor(version);
+        let runs = job.runs.iter().filter(|run| {
+            let call = reduce(run.number, ROOMY_LINES, ROOMY_FINDINGS);
+            let fill = Fill::Pattern;
+            let accepted = Trial { call, fill }.made(&accepting, &job.bytes());
+            void_where_moved(&job, run, &accepted).is_err()
+        });
+        runs.map(|run| run.number).collect()
+    }
+
+    #[test]
+    fn a_moved_factor_accepted_by_both_sides_will_not_do_in_version_2() {
+        assert_eq!(Version::ALL.map(to_be_void), [vec![], vec![8, 9]]);
     }
 
     /// The job as it would be read by who passes over letters.
@@ -228,13 +361,7 @@ mod tests {
         let careless = |job: &[u8], run: u16, lines: &mut [u8], findings: &mut [u8]| {
             independent::reduce(&without_letters(job), run, lines, findings)
         };
-        let parting = |version| {
-            let cases = random::cases(version, 100);
-            let jobs = cases.map(|case| case.subject.bytes());
-            jobs.filter(|job| difference(careless, job).is_some())
-                .count()
-        };
-        assert_eq!(parting(Version::One), 0);
-        assert!(parting(Version::Two) > 50);
+        assert_eq!(parting_random_jobs(Version::One, careless), 0);
+        assert!(parting_random_jobs(Version::Two, careless) > 50);
     }
 }

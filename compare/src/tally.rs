@@ -3,11 +3,13 @@
 //! little is no proof.
 
 mod edges;
+mod factors;
 mod letters;
 
 use std::fmt;
 
 use independent::job::{Job, Run};
+use independent::Class;
 
 use crate::call::{Outcome, FINDING_LENGTH, LINES_LENGTH, LINE_COUNT, LINE_LENGTH};
 use crate::versions::InTwin;
@@ -45,8 +47,17 @@ pub struct Tally {
     rules: [u64; LAST_RULE + 1],
     /// By line, then by the rule that was its only cause.
     absences: [[u64; LAST_RULE + 1]; LINE_COUNT + 1],
-    edges: [u64; EDGES.len()],
+    edges: Edges,
     refusals: [u64; REFUSALS + 1],
+}
+
+/// How often each edge was reached. An array of so many has no default.
+struct Edges([u64; EDGES.len()]);
+
+impl Default for Edges {
+    fn default() -> Self {
+        Edges([0; EDGES.len()])
+    }
 }
 
 impl Tally {
@@ -74,7 +85,7 @@ impl Tally {
     }
 
     fn count_edges(&mut self, reached: impl Fn(&Times) -> usize) {
-        for (edge, count) in EDGES.iter().zip(&mut self.edges) {
+        for (edge, count) in EDGES.iter().zip(&mut self.edges.0) {
             *count += reached(&edge.times) as u64;
         }
     }
@@ -92,6 +103,7 @@ impl Tally {
             accepted: outcome.accepted(),
             lines: lines(outcome),
             findings: findings(outcome),
+            faults: faults(outcome),
         };
         self.accepted += u64::from(reduced.accepted);
         self.void += u64::from(!reduced.accepted);
@@ -120,7 +132,7 @@ impl Tally {
         for (mine, others) in self.absences.iter_mut().zip(&other.absences) {
             add_each(mine, others);
         }
-        add_each(&mut self.edges, &other.edges);
+        add_each(&mut self.edges.0, &other.edges.0);
         add_each(&mut self.refusals, &other.refusals);
     }
 
@@ -170,7 +182,7 @@ impl Tally {
 
     /// The edges that such come to, with how often they did.
     fn edges(&self, such: fn(&Times) -> bool) -> impl Iterator<Item = (&'static str, u64)> + '_ {
-        let edges = EDGES.iter().zip(&self.edges);
+        let edges = EDGES.iter().zip(&self.edges.0);
         edges
             .filter(move |(edge, _)| such(&edge.times))
             .map(|(edge, &count)| (edge.name, count))
@@ -227,11 +239,22 @@ fn line(bytes: &[u8]) -> Option<i64> {
 
 /// Rule and place of each.
 fn findings(outcome: &Outcome) -> Vec<(u8, u16)> {
-    let findings = outcome.output(1).chunks(FINDING_LENGTH);
-    findings
-        .take(outcome.findings())
+    written_findings(outcome)
         .map(|bytes| (bytes[0], u16::from_le_bytes([bytes[2], bytes[3]])))
         .collect()
+}
+
+/// The rule of each that is a fault.
+fn faults(outcome: &Outcome) -> Vec<u8> {
+    written_findings(outcome)
+        .filter(|bytes| bytes[1] == Class::Fault as u8)
+        .map(|bytes| bytes[0])
+        .collect()
+}
+
+fn written_findings(outcome: &Outcome) -> impl Iterator<Item = &[u8]> {
+    let findings = outcome.output(1).chunks(FINDING_LENGTH);
+    findings.take(outcome.findings())
 }
 
 /// What was reached by jobs that are read.
@@ -260,14 +283,14 @@ impl fmt::Display for Tally {
 
 #[cfg(test)]
 mod tests {
-    use independent::job::{Job, NO_LETTER};
+    use independent::job::{Job, Version, NO_LETTER};
     use independent::samples;
     use leverbonnet::pipe::Call;
 
     use super::*;
     use crate::agreement::INDEPENDENT;
     use crate::call::{Fill, Trial};
-    use crate::versions::in_twin;
+    use crate::versions::{in_twin, moved_factor};
 
     #[test]
     fn a_comparison_without_a_text_has_not_reached_one() {
@@ -287,7 +310,7 @@ mod tests {
             let call = Call::Reduce {
                 run: run.number,
                 lines_len: LINES_LENGTH,
-                findings_len: 2 * FINDING_LENGTH,
+                findings_len: 3 * FINDING_LENGTH,
             };
             let fill = Fill::Pattern;
             let outcome = Trial { call, fill }.made(&INDEPENDENT, &job.bytes());
@@ -298,7 +321,7 @@ mod tests {
 
     /// The edges that are reached, with how often.
     fn reached(tally: &Tally) -> Vec<(&'static str, u64)> {
-        let edges = EDGES.iter().zip(tally.edges);
+        let edges = EDGES.iter().zip(tally.edges.0);
         edges
             .map(|(edge, count)| (edge.name, count))
             .filter(|&(_, count)| count > 0)
@@ -390,6 +413,85 @@ mod tests {
             1,
         );
         assert_eq!(reached(&counted(&job)), expected);
+    }
+
+    /// Three runs: not moved, moved up, moved down.
+    #[test]
+    fn moved_factors_are_told_apart_by_version_and_verdict() {
+        let limits = [
+            ("a factor up by just 5 percent: not moved", 1),
+            ("a factor up by the least over 5 percent: moved", 1),
+            ("a factor down by the least over 5 percent: moved", 1),
+        ];
+        let in_version_1 = [
+            ("a factor moved up in version 1: accepted", 1),
+            ("a factor moved down in version 1: accepted", 1),
+            (
+                "a factor moved down in version 1: Y the after factor, lines unlike those of version 2",
+                1,
+            ),
+            ("a run of version 1", 3),
+            ("a run of version 1 that is the same in version 2", 1),
+            (
+                "a run of version 1 left out of the check against its twin, because its factor moved",
+                2,
+            ),
+        ];
+        let in_version_2 = [
+            ("a factor moved up in version 2: void by it alone", 1),
+            ("a factor moved down in version 2: void by it alone", 1),
+            (
+                "a factor moved down in version 2: Y the before factor, lines unlike those of version 1",
+                1,
+            ),
+            ("a run of version 2", 3),
+            ("a run of version 2 that is the same in version 1", 1),
+            (
+                "a run of version 2 left out of the check against its twin, because its factor moved",
+                2,
+            ),
+        ];
+        for (version, edges) in [
+            (Version::One, &in_version_1[..]),
+            (Version::Two, &in_version_2[..]),
+        ] {
+            let tally = counted(&moved_factor(version));
+            assert_eq!(reached(&tally), [&limits[..], edges].concat());
+        }
+    }
+
+    /// The same, with a point that was too short in each.
+    #[test]
+    fn moved_factors_are_told_from_other_faults() {
+        let void = |version| {
+            let mut job = moved_factor(version);
+            for run in &mut job.runs {
+                run.points[0].seconds = 119;
+                run.points[1].seconds += 450 - 119;
+            }
+            let mut edges = reached(&counted(&job));
+            edges.retain(|(edge, _)| edge.contains(": void"));
+            edges
+        };
+        assert_eq!(
+            Version::ALL.map(void),
+            [
+                [
+                    ("a factor moved up in version 1: void", 1),
+                    ("a factor moved down in version 1: void", 1),
+                ],
+                [
+                    (
+                        "a factor moved up in version 2: void by it and another fault",
+                        1
+                    ),
+                    (
+                        "a factor moved down in version 2: void by it and another fault",
+                        1
+                    ),
+                ],
+            ]
+        );
     }
 
     #[test]

@@ -26,6 +26,14 @@ pub fn rebuilt_meter(version: Version) -> Job {
     }
 }
 
+/// The sample of factors that moved, without letters: in either version the other's twin.
+pub fn moved_factor(version: Version) -> Job {
+    match version {
+        Version::One => samples::moved_factor(),
+        Version::Two => samples::moved_factor_version_2(),
+    }
+}
+
 /// The longest sample of that version.
 pub fn longest(version: Version) -> Job {
     match version {
@@ -116,6 +124,29 @@ mod tests {
     fn the_version_changes_the_sheets_of_moved_factors_alone() {
         assert_eq!(changed(&samples::worked()), []);
         assert_eq!(changed(&samples::several_runs()), [2, 3]);
+        assert_eq!(changed(&samples::moved_factor()), [8, 9]);
+    }
+
+    #[test]
+    fn a_run_is_left_out_where_both_factors_are_found_and_moved() {
+        let runs = |job: &Job| -> Vec<InTwin> {
+            let runs = job.runs.iter();
+            runs.map(|run| in_twin(job, run)).collect()
+        };
+        let expected = [InTwin::Same, InTwin::LeftOut, InTwin::LeftOut];
+        for version in Version::ALL {
+            assert_eq!(runs(&moved_factor(version)), expected);
+
+            let mut no_after = moved_factor(version);
+            no_after.certificates.retain(|one| one.day <= 9_000);
+            assert_eq!(runs(&no_after), [InTwin::Same; 3]);
+
+            let mut no_before = moved_factor(version);
+            no_before.certificates.retain(|one| one.day > 9_000);
+            assert_eq!(runs(&no_before), [InTwin::Same; 3]);
+        }
+        let lettered = in_version(Version::Two, samples::moved_factor());
+        assert_eq!(runs(&lettered), [InTwin::NoTwin; 3]);
     }
 
     #[test]

@@ -1,19 +1,19 @@
 //! The worked job in a version: itself, with the least gas, at the limits of the
-//! percent isokinetic and of a weighing, with a rebuilt meter, each of its truncations,
-//! and each change of one byte.
+//! percent isokinetic and of a weighing, with a rebuilt meter, with factors that moved,
+//! each of its truncations, and each change of one byte.
 
 use independent::job::{Job, Version};
 use independent::samples;
 
 use crate::case::{Case, Change, Expected};
-use crate::versions::{in_version, rebuilt_meter};
+use crate::versions::{in_version, moved_factor, rebuilt_meter};
 
 fn worked(version: Version) -> Job {
     in_version(version, samples::worked())
 }
 
 /// Itself and what it becomes by other values.
-pub fn read(version: Version) -> [Case; 5] {
+pub fn read(version: Version) -> [Case; 6] {
     let read = |name: &str, job| Case::of_job(name.into(), job, Expected::Read);
     let sample = |name, sample| read(name, in_version(version, sample));
     [
@@ -30,6 +30,10 @@ pub fn read(version: Version) -> [Case; 5] {
         read(
             "the worked job with a rebuilt meter",
             rebuilt_meter(version),
+        ),
+        read(
+            "the worked job with factors that moved",
+            moved_factor(version),
         ),
     ]
 }

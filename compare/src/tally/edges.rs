@@ -1,5 +1,6 @@
 //! What some run or refusal of a comparison must come to: edges of the rules, which
-//! hardly any meets by chance, what letters are for, and both versions.
+//! hardly any meets by chance, factors that moved, what letters are for, and both
+//! versions.
 
 use independent::job::{Job, Run, Version};
 
@@ -14,6 +15,8 @@ pub struct Reduced<'a> {
     pub lines: Vec<Option<i64>>,
     /// Rule and place of each finding.
     pub findings: Vec<(u8, u16)>,
+    /// Rule of each finding that is a fault.
+    pub faults: Vec<u8>,
 }
 
 /// A file that was refused.
@@ -53,7 +56,7 @@ const SLOW_ROOT: i64 = 10_000;
 const STEADY: i64 = 5;
 
 #[rustfmt::skip]
-pub const EDGES: [Edge; 31] = [
+pub const EDGES: [Edge; 45] = [
     edge("line 6 at its least, 1", |run| run.at(6, 1)),
     edge("a slow stack, line 13 from 1 to 10000", |run| run.slow_stack()),
     edge("line 18 at 8999 and rule 15 broken", |run| run.broken_at(15, 8_999)),
@@ -83,6 +86,28 @@ pub const EDGES: [Edge; 31] = [
     edge("accepted with a weighing over 5 apart", |run| {
         usize::from(run.accepted && run.steady(|difference, _| difference > STEADY) > 0)
     }),
+    edge("a factor up by just 5 percent: not moved", |run| {
+        run.unmoved(|before, step| 20 * step == before)
+    }),
+    edge("a factor down by just 5 percent: not moved", |run| {
+        run.unmoved(|before, step| -20 * step == before)
+    }),
+    edge("a factor up by the least over 5 percent: moved", |run| {
+        run.moved(|before, step| (1..=20).contains(&(20 * step - before)))
+    }),
+    edge("a factor down by the least over 5 percent: moved", |run| {
+        run.moved(|before, step| (1..=20).contains(&(-20 * step - before)))
+    }),
+    edge("a factor moved up in version 1: accepted", |run| run.moved_up(Version::One, run.accepted)),
+    edge("a factor moved up in version 1: void", |run| run.moved_up(Version::One, !run.accepted)),
+    edge("a factor moved down in version 1: accepted", |run| run.moved_down(Version::One, run.accepted)),
+    edge("a factor moved down in version 1: void", |run| run.moved_down(Version::One, !run.accepted)),
+    edge("a factor moved down in version 1: Y the after factor, lines unlike those of version 2", |run| run.moved_down(Version::One, run.changed_by_version())),
+    edge("a factor moved up in version 2: void by it alone", |run| run.moved_up(Version::Two, run.void_by_factor_alone())),
+    edge("a factor moved up in version 2: void by it and another fault", |run| run.moved_up(Version::Two, run.void_by_factor_too())),
+    edge("a factor moved down in version 2: void by it alone", |run| run.moved_down(Version::Two, run.void_by_factor_alone())),
+    edge("a factor moved down in version 2: void by it and another fault", |run| run.moved_down(Version::Two, run.void_by_factor_too())),
+    edge("a factor moved down in version 2: Y the before factor, lines unlike those of version 1", |run| run.moved_down(Version::Two, run.changed_by_version())),
     edge("a nearer certificate passed over for its letter alone: the meter's before", |run| run.passed_over(1)),
     edge("a nearer certificate passed over for its letter alone: the pitot's", |run| run.passed_over(2)),
     edge("a nearer certificate passed over for its letter alone: the nozzle's", |run| run.passed_over(3)),
@@ -144,7 +169,7 @@ impl Reduced<'_> {
             .count()
     }
 
-    fn of_version(&self, version: Version) -> usize {
+    pub fn of_version(&self, version: Version) -> usize {
         usize::from(self.job.version == version)
     }
 
