@@ -101,3 +101,20 @@ fn others(proved: &Proved, sheet: Option<&CommandLine>) -> Result<Half, Failure>
     }
     Ok(Half { told: damaged, all })
 }
+
+#[cfg(test)]
+mod tests {
+    use super::*;
+    use crate::agreement::INDEPENDENT;
+    use crate::extent::LIGHT;
+
+    #[test]
+    fn the_fewest_random_jobs_reach_all_that_they_must() {
+        let proved = Proved::Linked(INDEPENDENT);
+        let random = in_both(|version| cases::random::cases(version, LIGHT.random_jobs));
+        let random = Section::new("random jobs").library(&proved, random);
+        let random = random.unwrap_or_else(|failure| panic!("{failure}"));
+        println!("{random}");
+        assert_eq!(random.unreached_by_reading(), Vec::<String>::new());
+    }
+}
