@@ -1,8 +1,10 @@
 //! The values to try a program on of docs/RULES.md that no theorem has: layouts,
-//! the worked job in a slow stack, with the least gas, at the limits of line 18, with
-//! letters, and made bad.
+//! the worked job in a slow stack, with a factor that moved, with the least gas, at
+//! the limits of line 18, with letters, and made bad.
 
-use leverbonnet::{rect_distances, reduce_run, round_distances, run_numbers, Error, Reduced};
+use leverbonnet::{
+    rect_distances, reduce_run, round_distances, run_numbers, Class, Error, Reduced,
+};
 
 const WORKED: &[u8] = include_bytes!("../../examples/worked.job");
 
@@ -36,7 +38,7 @@ fn with_one_day() -> Vec<u8> {
     with(33, day_of_the_first_certificate)
 }
 
-/// The worked job, or the one with a day changed, in version 2 with these letters.
+/// The worked job, or one with bytes changed, in version 2 with these letters.
 fn in_version_2(job: &[u8], letters: &[u8; 7]) -> Vec<u8> {
     let mut job = job.to_vec();
     job[3] = 2;
@@ -44,6 +46,12 @@ fn in_version_2(job: &[u8], letters: &[u8; 7]) -> Vec<u8> {
         job.insert(place, letter);
     }
     job
+}
+
+/// The rules that the run breaks, each with the class of its finding.
+fn classes(run: &Reduced) -> Vec<(u8, Class)> {
+    let findings = run.findings.iter();
+    findings.map(|one| (one.rule, one.class)).collect()
 }
 
 /// The rules that the run breaks.
@@ -87,6 +95,47 @@ fn a_slow_stack() {
     }
     let expected = [5_477, 8_741, 3_438, 128_847].map(Some);
     assert_eq!(values(&job, [13, 14, 15, 18]), expected);
+}
+
+/// The worked job with that factor in its second meter certificate.
+fn with_factor_after(factor: u16) -> Vec<u8> {
+    with(35, &factor.to_le_bytes())
+}
+
+#[test]
+fn a_factor_that_moved_by_just_5_percent_has_not_moved() {
+    let worked = reduce_run(WORKED, 7);
+    for after in [9_500, 10_500] {
+        let job = with_factor_after(after);
+        assert_eq!(reduce_run(&job, 7), worked);
+        assert_eq!(reduce_run(&in_version_2(&job, NO_LETTERS), 7), worked);
+    }
+}
+
+#[test]
+fn a_factor_that_moved_is_a_note_in_version_1_with_the_lower_factor() {
+    let (up, down) = (with_factor_after(10_501), with_factor_after(9_499));
+    for job in [&up, &down] {
+        let run = reduce_run(job, 7).unwrap();
+        assert_eq!(classes(&run), [(5, Class::Note), (11, Class::Note)]);
+        assert!(run.accepted);
+    }
+    let worked = reduce_run(WORKED, 7).unwrap();
+    assert_eq!(reduce_run(&up, 7).unwrap().lines, worked.lines);
+    let expected = [36_857, 9_525, 4_421].map(Some);
+    assert_eq!(values(&down, [6, 18, 20]), expected);
+}
+
+#[test]
+fn a_factor_that_moved_is_a_fault_in_version_2_with_the_factor_before() {
+    let worked = reduce_run(WORKED, 7).unwrap();
+    for after in [10_501, 9_499] {
+        let job = in_version_2(&with_factor_after(after), NO_LETTERS);
+        let run = reduce_run(&job, 7).unwrap();
+        assert_eq!(run.lines, worked.lines);
+        assert_eq!(classes(&run), [(5, Class::Fault), (11, Class::Note)]);
+        assert!(!run.accepted);
+    }
 }
 
 #[test]
