@@ -148,6 +148,13 @@ static void findings_in_words(void)
     finding_must_read(1, 1, 0,
                       "Fault 1: the meter has no certificate of the run's day or earlier with the same maker, serial "
                       "and letter.");
+    finding_must_read(5, 0, 0,
+                      "Note 5: the meter's factor moved by more than 5 percent, and Y is the lower of the two.");
+    finding_must_read(5, 1, 0,
+                      "Fault 5: the meter's factor moved by more than 5 percent, and Y is the earlier of the two.");
+    finding_must_read(5, 1, 3,
+                      "Fault 5, place 3: the meter's factor moved by more than 5 percent, and Y is the earlier of the "
+                      "two.");
     finding_must_read(11, 0, 1, "Note 11, segment 1: the leak rate is above the allowance.");
     finding_must_read(17, 1, 8,
                       "Fault 17, weighing 8: the two final weights differ by more than 0.5 mg and more than 1 percent of the "
@@ -177,13 +184,14 @@ static void words_fit(void)
 {
     leverbonnet_line line;
     leverbonnet_finding finding;
-    line.present = finding.fault = 1;
+    line.present = 1;
     line.value = INT64_MIN;
     for (line.number = 0; line.number < 300; line.number++)
         MUST(leverbonnet_line_words(line, NULL, 0) < LEVERBONNET_WORDS_BYTES_MOST);
     for (finding.rule = 0; finding.rule < 256; finding.rule++)
         for (finding.place = 0; finding.place <= 65535; finding.place += 65535)
-            MUST(leverbonnet_finding_words(finding, NULL, 0) < LEVERBONNET_WORDS_BYTES_MOST);
+            for (finding.fault = 0; finding.fault <= 1; finding.fault++)
+                MUST(leverbonnet_finding_words(finding, NULL, 0) < LEVERBONNET_WORDS_BYTES_MOST);
     for (finding.rule = 1; finding.rule < 300; finding.rule++)
         MUST(leverbonnet_refusal_words(REFUSED(finding.rule, UINT32_MAX), NULL, 0) < LEVERBONNET_WORDS_BYTES_MOST);
 }
@@ -202,6 +210,7 @@ static void no_such_number(void)
     MUST(strcmp(leverbonnet_line_name(0), "no such line") == 0);
     MUST(leverbonnet_line_unit(21)[0] == 0 && leverbonnet_line_decimals(21) == 0);
     MUST(strcmp(leverbonnet_rule_clause(0), "no rule has that number") == 0 && leverbonnet_rule_place(21)[0] == 0);
+    MUST(leverbonnet_class_clause(0, 1)[0] == 0 && leverbonnet_class_clause(11, 0)[0] == 0);
     MUST(strcmp(leverbonnet_refusal_clause(12), "no refusal has that number") == 0);
 }
 

@@ -50,7 +50,7 @@ static const struct {
     {2, "the pitot tube has no certificate of the run's day or earlier with the same maker, serial and letter", ""},
     {3, "the nozzle has no certificate of the run's day or earlier with the same maker, serial and letter", ""},
     {4, "the meter has no certificate later than the run's day with the same maker, serial and letter", ""},
-    {5, "the meter's factor moved by more than 5 percent, and Y is the lower of the two", ""},
+    {5, "the meter's factor moved by more than 5 percent", ""},
     {6, "the nozzle's highest and lowest diameters differ by more than 0.004 in", ""},
     {7, "the stack's diameter is below 12 in", ""},
     {8, "the next disturbance is nearer than half a diameter, or the last one nearer than two", ""},
@@ -65,6 +65,16 @@ static const struct {
     {18, "no filter was weighed", ""},
     {19, "no rinse was weighed", ""},
     {20, "the catch, line 19, is negative", ""},
+};
+
+/* A rule, whether a finding of it is a fault, and what the finding says besides. */
+static const struct {
+    unsigned rule;
+    int fault;
+    const char *clause;
+} class_texts[] = {
+    {5, 0, "Y is the lower of the two"},
+    {5, 1, "Y is the earlier of the two"},
 };
 
 /* A refusal, and why it is given. */
@@ -126,6 +136,15 @@ const char *leverbonnet_rule_place(unsigned rule)
 {
     size_t row = rule_row(rule);
     return row < ROWS(rule_texts) ? rule_texts[row].place : "";
+}
+
+const char *leverbonnet_class_clause(unsigned rule, int fault)
+{
+    size_t k;
+    for (k = 0; k < ROWS(class_texts); k++)
+        if (class_texts[k].rule == rule && class_texts[k].fault == (fault != 0))
+            return class_texts[k].clause;
+    return "";
 }
 
 const char *leverbonnet_refusal_clause(unsigned number)
@@ -198,10 +217,12 @@ int leverbonnet_finding_words(leverbonnet_finding finding, char *out, size_t out
     const char *class_name = finding.fault ? "Fault" : "Note";
     const char *clause = leverbonnet_rule_clause(finding.rule);
     const char *place = leverbonnet_rule_place(finding.rule);
+    const char *besides = leverbonnet_class_clause(finding.rule, finding.fault);
+    const char *joint = besides[0] ? ", and " : "";
     if (finding.place == 0)
-        return snprintf(out, out_len, "%s %u: %s.", class_name, finding.rule, clause);
-    return snprintf(out, out_len, "%s %u, %s %u: %s.", class_name, finding.rule, place[0] ? place : "place",
-                    finding.place, clause);
+        return snprintf(out, out_len, "%s %u: %s%s%s.", class_name, finding.rule, clause, joint, besides);
+    return snprintf(out, out_len, "%s %u, %s %u: %s%s%s.", class_name, finding.rule, place[0] ? place : "place",
+                    finding.place, clause, joint, besides);
 }
 
 int leverbonnet_refusal_words(uint64_t answer, char *out, size_t out_len)

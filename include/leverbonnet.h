@@ -7,7 +7,9 @@
  * A job is of version 1 or of version 2, and every call reads both. Version 2 has
  * a letter behind each serial, for meters that were rebuilt: kind, maker, serial
  * and letter together say whose a certificate is. In version 1 every letter is
- * none.
+ * none. Rule 5, that the meter's factor moved by more than 5 percent, is a note in
+ * version 1, with the lower of the two factors as Y, and a fault in version 2, with
+ * the earlier one. Nothing else of a run goes by the version.
  *
  * Every call answers one uint64_t:
  *
@@ -86,8 +88,9 @@ extern "C" {
  * and 0 if it is absent, then its value as a signed 64-bit number (0 if absent).
  *
  * findings: 4 bytes each, by rule and then place: the rule (1 to 20; no rule has
- * the number 13), the class (1 fault, 2 note), the place as 16 bits: a point,
- * segment or weighing counted from 1, or 0 for the whole run.
+ * the number 13), the class (1 fault, 2 note; notes are those of rule 11, and in a
+ * job of version 1 those of rule 5), the place as 16 bits: a point, segment or
+ * weighing counted from 1, or 0 for the whole run.
  *
  * Succeeds with the number of findings, plus LEVERBONNET_ACCEPTED if none is a
  * fault. Answers 9 if lines_len is below 180 or findings_len below 4 bytes for

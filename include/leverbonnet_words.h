@@ -24,8 +24,8 @@ typedef struct {
     int64_t value;
 } leverbonnet_line;
 
-/* A finding: its rule, whether it is a fault or else a note, and its place, 0 for
- * the whole run. */
+/* A finding: its rule, whether it is a fault or else a note, which for rule 5 goes
+ * by the job's version, and its place, 0 for the whole run. */
 typedef struct {
     unsigned rule;
     int fault;
@@ -51,6 +51,10 @@ unsigned leverbonnet_line_decimals(unsigned number);
  * that number" and "". */
 const char *leverbonnet_rule_clause(unsigned rule);
 const char *leverbonnet_rule_place(unsigned rule);
+
+/* What a finding of that rule says besides if it is a fault, or else a note: of rule
+ * 5 which factor Y is. Of any other rule "". */
+const char *leverbonnet_class_clause(unsigned rule, int fault);
 
 /* Why a call is refused. Of a number that no refusal has, "no refusal has that
  * number". */

@@ -5,7 +5,9 @@ use std::fmt;
 use crate::outputs::FINDING_LENGTH;
 use crate::texts;
 
-/// One fault makes a run void; notes do not.
+/// One fault makes a run void; notes do not. Findings of rule 11 are notes, and so
+/// are those of rule 5 in a job of version 1; in one of version 2 they are faults,
+/// as those of all other rules are in both.
 #[derive(Clone, Copy, Debug, PartialEq, Eq)]
 pub enum Class {
     Fault,
@@ -25,6 +27,17 @@ pub enum Class {
 ///     note.to_string(),
 ///     "Note 11, segment 1: the leak rate is above the allowance."
 /// );
+/// ```
+///
+/// Of rule 5 the class tells which factor was taken, because both go by the job's
+/// version:
+///
+/// ```
+/// # use leverbonnet::{Class, Finding};
+/// let note = Finding { rule: 5, class: Class::Note, place: 0 };
+/// assert!(note.to_string().ends_with(", and Y is the lower of the two."));
+/// let fault = Finding { rule: 5, class: Class::Fault, place: 0 };
+/// assert!(fault.to_string().ends_with(", and Y is the earlier of the two."));
 /// ```
 #[derive(Clone, Copy, Debug, PartialEq, Eq)]
 pub struct Finding {
@@ -71,6 +84,10 @@ impl fmt::Display for Finding {
             (place, "") => write!(f, ", place {place}")?,
             (place, counted) => write!(f, ", {counted} {place}")?,
         }
-        write!(f, ": {clause}.")
+        write!(f, ": {clause}")?;
+        if let Some(text) = texts::class(self.rule, self.class) {
+            write!(f, ", and {}", text.clause)?;
+        }
+        f.write_str(".")
     }
 }

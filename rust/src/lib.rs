@@ -10,6 +10,10 @@
 //! Each gives what succeeded, or an [`Error`]: the library's [`Refusal`], or why it
 //! was not reached.
 //!
+//! A job is of version 1 or of version 2, and every call reads both. Where the
+//! meter's factor moved by more than 5 percent, the factor Y and the [`Class`] of the
+//! finding go by the version; nothing else of a run does.
+//!
 //! [`Reduced`], [`Line`], [`Finding`] and [`Refusal`] display themselves in words,
 //! and [`Refusal::in_job`] names the field that a job is refused for. All names and
 //! sentences stand in [`texts`], the fields of a job file in [`field`].

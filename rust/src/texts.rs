@@ -1,7 +1,7 @@
 //! The names and sentences of the package, each said once: what the lines are
-//! called and their units, what each rule says and what its place counts, and
-//! why each refusal is given. A number may be left out of a table, and what
-//! looks it up answers `None`.
+//! called and their units, what each rule says and what its place counts, what a
+//! finding of a class says besides, and why each refusal is given. A number may be
+//! left out of a table, and what looks it up answers `None`.
 //!
 //! ```
 //! use leverbonnet::texts;
@@ -11,6 +11,8 @@
 //! assert_eq!(texts::rule(11).unwrap().place, "segment");
 //! assert!(texts::refusal(12).is_none());
 //! ```
+
+use crate::finding::Class;
 
 /// What a line is called. Its whole number, with so many decimals, is its value
 /// in the unit.
@@ -31,6 +33,14 @@ pub struct RuleText {
     pub place: &'static str,
 }
 
+/// What a finding of the rule says besides where it is of that class, as a clause.
+#[derive(Clone, Copy, Debug, PartialEq, Eq)]
+pub struct ClassText {
+    pub rule: u8,
+    pub class: Class,
+    pub clause: &'static str,
+}
+
 /// Why a refusal is given, as a clause.
 #[derive(Clone, Copy, Debug, PartialEq, Eq)]
 pub struct RefusalText {
@@ -44,6 +54,11 @@ pub fn line(number: u8) -> Option<&'static LineText> {
 
 pub fn rule(number: u8) -> Option<&'static RuleText> {
     RULES.iter().find(|rule| rule.number == number)
+}
+
+pub fn class(rule: u8, class: Class) -> Option<&'static ClassText> {
+    let mut texts = CLASSES.iter();
+    texts.find(|text| (text.rule, text.class) == (rule, class))
 }
 
 pub fn refusal(number: u32) -> Option<&'static RefusalText> {
@@ -80,7 +95,7 @@ pub const RULES: &[RuleText] = &[
     a_rule( 2, "", "the pitot tube has no certificate of the run's day or earlier with the same maker, serial and letter"),
     a_rule( 3, "", "the nozzle has no certificate of the run's day or earlier with the same maker, serial and letter"),
     a_rule( 4, "", "the meter has no certificate later than the run's day with the same maker, serial and letter"),
-    a_rule( 5, "", "the meter's factor moved by more than 5 percent, and Y is the lower of the two"),
+    a_rule( 5, "", "the meter's factor moved by more than 5 percent"),
     a_rule( 6, "", "the nozzle's highest and lowest diameters differ by more than 0.004 in"),
     a_rule( 7, "", "the stack's diameter is below 12 in"),
     a_rule( 8, "", "the next disturbance is nearer than half a diameter, or the last one nearer than two"),
@@ -95,6 +110,13 @@ pub const RULES: &[RuleText] = &[
     a_rule(18, "", "no filter was weighed"),
     a_rule(19, "", "no rinse was weighed"),
     a_rule(20, "", "the catch, line 19, is negative"),
+];
+
+/// Rule 5 is a note in a job of version 1 and a fault in one of version 2, and Y
+/// goes by the version too.
+pub const CLASSES: &[ClassText] = &[
+    a_class(5, Class::Note, "Y is the lower of the two"),
+    a_class(5, Class::Fault, "Y is the earlier of the two"),
 ];
 
 #[rustfmt::skip]
@@ -131,6 +153,14 @@ const fn a_rule(number: u8, place: &'static str, clause: &'static str) -> RuleTe
         number,
         clause,
         place,
+    }
+}
+
+const fn a_class(rule: u8, class: Class, clause: &'static str) -> ClassText {
+    ClassText {
+        rule,
+        class,
+        clause,
     }
 }
 

@@ -3,7 +3,7 @@
 
 use std::fmt::Write;
 
-use leverbonnet::texts;
+use leverbonnet::{texts, Class};
 
 const C: &str = include_str!("../../c/leverbonnet_words.c");
 
@@ -34,6 +34,17 @@ fn rules() {
         writeln!(rows, "    {{{number}, \"{clause}\", \"{place}\"}},").unwrap();
     }
     assert_eq!(table("rule_texts"), rows);
+}
+
+#[test]
+fn classes() {
+    let mut rows = String::new();
+    for text in texts::CLASSES {
+        let (rule, clause) = (text.rule, text.clause);
+        let fault = u8::from(text.class == Class::Fault);
+        writeln!(rows, "    {{{rule}, {fault}, \"{clause}\"}},").unwrap();
+    }
+    assert_eq!(table("class_texts"), rows);
 }
 
 #[test]

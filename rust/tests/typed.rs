@@ -104,5 +104,6 @@ fn every_type_may_be_sent_and_shared() {
     assert::<Reduced>();
     assert::<leverbonnet::field::Record>();
     assert::<leverbonnet::texts::RuleText>();
+    assert::<leverbonnet::texts::ClassText>();
     assert::<leverbonnet::pipe::Pipe>();
 }

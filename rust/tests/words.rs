@@ -116,6 +116,10 @@ fn a_finding_is_a_sentence_that_names_its_place() {
             finding(5, Class::Note, 0),
             "Note 5: the meter's factor moved by more than 5 percent, and Y is the lower of the two.",
         ),
+        (
+            finding(5, Class::Fault, 0),
+            "Fault 5: the meter's factor moved by more than 5 percent, and Y is the earlier of the two.",
+        ),
     ] {
         assert_eq!(finding.to_string(), sentence);
     }
@@ -169,6 +173,19 @@ fn the_rules_each_have_a_clause_of_their_own() {
         .windows(2)
         .all(|two| two[0].number < two[1].number);
     assert!(rising, "the table is in order, none twice");
+}
+
+#[test]
+fn of_rule_5_alone_the_class_says_more_than_the_rule() {
+    for rule in 0..=u8::MAX {
+        for class in [Class::Note, Class::Fault] {
+            let texts = texts::CLASSES.iter();
+            let own = texts.filter(|text| (text.rule, text.class) == (rule, class));
+            assert_eq!(own.count(), usize::from(rule == 5));
+            let says_more = finding(rule, class, 0).to_string().contains(", and Y is ");
+            assert_eq!(says_more, rule == 5);
+        }
+    }
 }
 
 #[test]
