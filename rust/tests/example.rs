@@ -36,6 +36,8 @@ fn a_job_that_is_read_is_printed_in_words() {
         "weighing-limits",
         "rebuilt-meter",
         "rebuilt-meter-no-letter",
+        "moved-factor",
+        "moved-factor-version-2",
     ] {
         let job = example(&format!("{name}.job"));
         let words = fs::read_to_string(example(&format!("{name}.words"))).expect("it is there");

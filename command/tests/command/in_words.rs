@@ -20,6 +20,8 @@ fn the_words_hold_the_values_of_the_plain_sheet() {
         "weighing-limits",
         "rebuilt-meter",
         "rebuilt-meter-no-letter",
+        "moved-factor",
+        "moved-factor-version-2",
         "longest",
         "longest-version-2",
     ] {
@@ -80,6 +82,33 @@ fn runs_have_a_blank_line_between_them_and_none_behind() {
     assert_eq!(runs.len(), 9);
     assert!(runs.iter().all(|run| run.starts_with("Run ")));
     assert!(text.ends_with("percent.\n"), "{text}");
+}
+
+/// The two jobs hold the same records. Run 7 has a factor that moved by just 5
+/// percent, runs 8 and 9 have factors that moved by more.
+#[test]
+fn a_factor_that_moved_is_told_by_the_version() {
+    for (job, verdict, finding) in [
+        (
+            "moved-factor",
+            "ACCEPTED",
+            "Note 5: the meter's factor moved by more than 5 percent, and Y is the lower of the two.",
+        ),
+        (
+            "moved-factor-version-2",
+            "VOID",
+            "Fault 5: the meter's factor moved by more than 5 percent, and Y is the earlier of the two.",
+        ),
+    ] {
+        let text = in_words(&[&format!("examples/{job}.job")]).out;
+        let runs: Vec<&str> = text.split("\n\n").collect();
+        assert_eq!(runs.len(), 3, "{text}");
+        assert!(runs[0].starts_with("Run 7 is ACCEPTED.\n") && !runs[0].contains(" 5: "));
+        for (run, number) in runs[1..].iter().zip([8, 9]) {
+            assert!(run.starts_with(&format!("Run {number} is {verdict}.\n")), "{run}");
+            assert!(run.contains(&format!("\n{finding}\n")), "{run}");
+        }
+    }
 }
 
 #[test]
