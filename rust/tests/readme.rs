@@ -1,5 +1,8 @@
 //! What README prints is what stands in the files: the two example programs, the
-//! worked job's sheet in words, the refused job's sentence.
+//! worked job's sheet in words, the refused job's sentence; and what is said of a
+//! factor that moved.
+
+use leverbonnet::{Class, Finding};
 
 const README: &str = include_str!("../../README.md");
 
@@ -20,6 +23,16 @@ fn the_sheets_in_words() {
     let refused = include_str!("../../examples/refused.words");
     let asked = "$ ./leverbonnet sheet --words examples/refused.job\n";
     assert_printed(&format!("{asked}{refused}"), "");
+}
+
+#[test]
+fn a_factor_that_moved_in_either_version() {
+    let [note, fault] = [Class::Note, Class::Fault].map(|class| Finding {
+        rule: 5,
+        class,
+        place: 0,
+    });
+    assert_printed(&format!("{note}\n{fault}\n"), "");
 }
 
 #[test]
