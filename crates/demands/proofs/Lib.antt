@@ -11,6 +11,7 @@ pub mod Demand2
 pub mod Sorted
 pub mod Demand3
 pub mod SameOutcomes
+pub mod Unmoved
 pub mod TwoJobs
 pub mod Thirteen
 pub mod Percent

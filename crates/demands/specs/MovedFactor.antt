@@ -17,6 +17,7 @@ use Rattle.factors.specs.Factor.{factorOf}
 use Rattle.classes.specs.Classes.{note, classOf}
 use Rattle.findings.specs.Listing.{accepted, linesFor, findingsFor, Breaks}
 use Rattle.opening.specs.Opening.{versionOf}
+use Rattle.job.specs.Places.{runOf}
 use Rattle.job.specs.Worked.{movedJob}
 use Rattle.reduction.specs.Reducing.{chosenIn}
 use Rattle.demands.specs.Demands.{SameRecords}
@@ -52,6 +53,13 @@ pub record LowerAndNote (ch : Chosen) : Type 0 where
 pub record BeforeAndVoid (r : Run) (ch : Chosen) : Type 0 where
   pub factor : factorOf Two ch ≡ ownFactor (ch .before)
   pub void : Breaks r ch (linesFor Two r ch) 5 0 → accepted (findingsFor Two r ch) ≡ true → ⊥
+
+-- Two jobs of whatever versions hold the same records, and the run does not break rule 5
+pub record SameUnmoved (s t : List ℕ) (run : ℕ) : Type 0 where
+  pub records : SameRecords s t run
+  pub unmoved :
+      Breaks (runOf s (records .index)) (chosenIn s (records .index)) (linesFor (versionOf s) (runOf s (records .index)) (chosenIn s (records .index))) 5 0
+      → ⊥
 
 -- the worked job's lines with the lower factor, 9,499
 abbrev pub lowerLines : List ℕ
