@@ -40,7 +40,7 @@ use Rattle.writing.specs.Bytes.{sheetSize, findingSize}
 use Rattle.demands.specs.Demands.{SameRecords, SameBytes}
 use Rattle.demands.specs.MovedFactor.{ownFactor, Moved, LowerAndNote, BeforeAndVoid, AnotherY}
 use Rattle.demands.proofs.Sorted.{class-at}
-use Rattle.demands.proofs.Printed.{printed}
+use Rattle.demands.proofs.Printed.{kept, voided}
 
 -- In version 1
 
@@ -51,15 +51,12 @@ lower-and-note ch =
       class = refl;
       moved = λ b a before after beyond. rw (before, after, lt-ltb _ _ beyond);
       stayed = λ b a before after within. rw (before, after, le-ltb _ _ (not-beyond (b .first) (a .first) within));
-      alone = λ none. rw none (without (ch .before));
+      alone = λ b before none. rw (before, none);
+      missing = λ none. rw none;
     }
   where
     not-beyond : (b a : ℕ) → (Moved b a → ⊥) → 20 * apart b a ≤ b
     not-beyond b a within = omega (arith, within)
-
-    without : (l : Lookup) → factorFrom One l Nothing ≡ ownFactor l
-    without Nothing = refl
-    without (Found c) = refl
 
 -- In version 2
 
@@ -127,7 +124,7 @@ same-records =
 pub another-y : AnotherY
 unfolding u16At u32At i16At versionOf sameIdentity runAt runStart chosenIn chosenFor chosen eligible keep factorOf factor lowerIfMoved factorMoved holds apart
 another-y =
-    record { same = same-records; lower = refl; before = refl; kept = printed .1 .0; voided = printed .1 .1 }
+    record { first = refl; second = refl; same = same-records; lower = refl; before = refl; kept = kept; voided = voided }
 
 -- So without the version two jobs would not come to the same
 pub version-counts : SameBytes SameRecords → ⊥
@@ -137,5 +134,5 @@ version-counts same-bytes =
     let other =
     same-bytes (movedJob One) (movedJob Two) 7 same-records lines findings _ _ _
     (record { answer = refl; lines = refl; findings = refl }) in
-    let never : _≡_ {A = ℕ} 65538 2 = sym (printed .1 .0 .answer) ∙ other .answer ∙ printed .1 .1 .answer in
+    let never : _≡_ {A = ℕ} 65538 2 = sym (kept .answer) ∙ other .answer ∙ voided .answer in
     absurd (omega arith)

@@ -40,10 +40,20 @@ use Rattle.lines.specs.Starred.{workedLines}
 use Rattle.demands.specs.Starred.{PrintedJob}
 use Rattle.demands.specs.MovedFactor.{Kept, Voided}
 
--- the worked job, and the same with a meter that moved, in either version
-pub printed : PrintedJob × (Kept × Voided)
+computed : PrintedJob × (Kept × Voided)
 unfolding grown floorRoot nearestRoot roundDiv division within signedWithin sameIdentity sumTo time meteredVolume allowance leakLoss leakLosses correctedVolume meanOrifice meterPressure meterTemperature dryVolume waterVapor moisture unlessZero addScaled nozzleArea drawnGas isokinetic deduction finalWeights tares catch concentration metering stack sampling lines sheet dryWeight wetWeight stackPressure stackTemperature pointRoot meanRoot densityRoot velocity eligible keep chosen chosenFor holds deciding apart factorMoved lowerIfMoved factor factorOf coefficientOf diametersOf broken brokenAt findingAt ruleFindings findingsTo findings accepted listed linesFor findingsFor missing moved uneven diameter halfDiameter undisturbed minimumPoints nextOf nextGrid nextAllowed short leaking lineAgainst ratioAgainst steadyLimit unsteady table groundOf partOf ofKind besideOf placesOf placeAt classOf u16At u32At i16At versionOf first checks upTo padded filledTo recordTrouble runAt runStart readJob anyTo partsTrouble runTrouble numberBefore jobTrouble worked reduction chosenIn reducedRun runNamed packed le spliced joined entryBytes sheetBytes findingBytes findingsBytes handed outcome success answerOf linesAfter findingsAfter countAnswer numberAnswer workedLines
-printed = (
+computed = (
   record { answer = refl; lines = refl; findings = refl },
   (record { answer = refl; lines = refl; findings = refl }, record { answer = refl; lines = refl; findings = refl }),
 )
+
+-- The worked job
+pub printed : PrintedJob
+printed = computed .0
+
+-- The same with a meter that moved, in version 1 and in version 2
+pub kept : Kept
+kept = computed .1 .0
+
+pub voided : Voided
+voided = computed .1 .1

@@ -47,7 +47,8 @@ pub record LowerAndNote (ch : Chosen) : Type 0 where
       → ch .after ≡ Found a
       → (Moved (b .first) (a .first) → ⊥)
       → factorOf One ch ≡ Known (b .first)
-  pub alone : ch .after ≡ Nothing → factorOf One ch ≡ ownFactor (ch .before)
+  pub alone : (b : Certificate) → ch .before ≡ Found b → ch .after ≡ Nothing → factorOf One ch ≡ Known (b .first)
+  pub missing : ch .before ≡ Nothing → factorOf One ch ≡ Missing
 
 -- In version 2 Y is always the before factor, and a run that breaks rule 5 is void
 pub record BeforeAndVoid (r : Run) (ch : Chosen) : Type 0 where
@@ -77,6 +78,8 @@ Voided = PrintedAs (movedJob Two) 2 2 (workedLines .expected) (5 ∷ 1 ∷ 0 ∷
 
 -- The counter-example: the same records in both versions, another Y, another answer
 pub record AnotherY : Type 0 where
+  pub first : versionOf (movedJob One) ≡ One
+  pub second : versionOf (movedJob Two) ≡ Two
   pub same : SameRecords (movedJob One) (movedJob Two) 7
   pub lower : factorOf (versionOf (movedJob One)) (chosenIn (movedJob One) 0) ≡ Known 9499
   pub before : factorOf (versionOf (movedJob Two)) (chosenIn (movedJob Two) 0) ≡ Known 10000
