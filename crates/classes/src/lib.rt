@@ -38,12 +38,11 @@ pub fn place(rule: u8, i: u8) -> u16
 pub fn class(v: Version, rule: u8) -> u8
     ensures { λ r. ⌜ r ≡ classOf v rule ⌝ }
 {
-    let moved = match v {
-        Version::One => NOTE,
-        Version::Two => FAULT,
-    };
     match rule {
-        5 => moved,
+        5 => match v {
+            Version::One => NOTE,
+            Version::Two => FAULT,
+        },
         11 => NOTE,
         _ => FAULT,
     }

@@ -1,7 +1,6 @@
 -- `class` is `classOf`: 5 by the version, 11, and the rest.
 use Prim.Native.Nat.{ℕ}
-use mathlib.Core.Path.{_≡_, refl, _∙_}
-use mathlib.Core.Logic.{⊎-elim}
+use mathlib.Core.Path.{_≡_, refl}
 use borrow.Author.Needs.{needs}
 use borrow.Author.Tests.{ne-eqb}
 use Rattle.readings.specs.declared.headers.Version.{Version}
@@ -28,15 +27,17 @@ neither Two rule not-five not-eleven = rw (ne-eqb rule 11 not-eleven)
 
 returns : tie.Need-returns
 unfolding classOf
-returns c =
-    rw (c .match2 .keys1)
-    (⊎-elim (λ w. w .2 ∙ rw (w .1 .given .1)) (λ w. w .2 ∙ rw (w .1 .given .1)) (c .before .match .came))
+returns c = rw (c .before .before .match .keys1, c .enum-told .given .1)
 
 returns-2 : tie.Need-returns-2
-returns-2 c = rw (c .match2 .keys2) (eleven _)
+unfolding classOf
+returns-2 c = rw (c .before .before .match .keys1, c .enum-told2 .given .1)
 
 returns-3 : tie.Need-returns-3
-returns-3 c = neither _ _ (c .match2 .rest .0 .1) (c .match2 .rest .1)
+returns-3 c = rw (c .match .keys2) (eleven _)
+
+returns-4 : tie.Need-returns-4
+returns-4 c = neither _ _ (c .match .rest .0 .1) (c .match .rest .1)
 
 pub class-spec : {M : Type 1} → statement M
-class-spec = tie.close (tie.spec enum-told enum-told-2 returns returns-2 returns-3)
+class-spec = tie.close (tie.spec enum-told enum-told-2 returns returns-2 returns-3 returns-4)
