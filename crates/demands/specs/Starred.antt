@@ -45,7 +45,7 @@ Stands (ofReading file job certificates run) =
 abbrev pub workedFile : Version → StarredValue
 workedFile v = ofReading (workedJob v) (workedRead v) workedCertificates workedRun
 
--- roots, leak and the worked job's lines; the factor moved and not moved; line 18 and weighings on either side; the positions; the worked job's file in either version
+-- roots, leak and the worked job's lines; the factor moved and not moved, in either version; line 18 and weighings on either side; the positions; the worked job's file in either version
 abbrev pub starred : List StarredValue
 starred =
     map ofNumbers (roots ∷ leak ∷ workedLines ∷ [])

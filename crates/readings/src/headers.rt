@@ -4,7 +4,7 @@ use crate::range;
 ghost use mathlib.Core.Path.{_≡_};
 ghost use Rattle.readings.specs.Ranges.{version, certificateCount, runCount};
 
-// A job file's version. From the second on, a letter follows each serial number.
+// A job file's version. In the second a letter follows each serial number, and a meter that moved voids a run.
 pub enum Version {
     One,
     Two,
