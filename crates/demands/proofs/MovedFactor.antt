@@ -18,6 +18,7 @@ use Rattle.records.specs.declared.Identity.{Identity}
 use Rattle.records.specs.declared.Run.{Run}
 use Rattle.records.specs.Records.{sameIdentity, sumTo}
 use Rattle.records.specs.Worked.{workedRun}
+use Rattle.values.specs.declared.Value.the-variants.{Known}
 use Rattle.choosing.specs.declared.Lookup.{Lookup}
 use Rattle.choosing.specs.declared.Lookup.the-variants.{Found, Nothing}
 use Rattle.choosing.specs.declared.Chosen.{Chosen}
@@ -38,7 +39,7 @@ use Rattle.job.specs.Worked.{movedJob}
 use Rattle.reduction.specs.Reducing.{chosenIn}
 use Rattle.writing.specs.Bytes.{sheetSize, findingSize}
 use Rattle.demands.specs.Demands.{SameRecords, SameBytes}
-use Rattle.demands.specs.MovedFactor.{ownFactor, Moved, LowerAndNote, BeforeAndVoid, AnotherY}
+use Rattle.demands.specs.MovedFactor.{Moved, LowerAndNote, BeforeAndVoid, AnotherY}
 use Rattle.demands.proofs.Sorted.{class-at}
 use Rattle.demands.proofs.Printed.{kept, voided}
 
@@ -60,15 +61,19 @@ lower-and-note ch =
 
 -- In version 2
 
-before-factor : (b a : Lookup) → factorFrom Two b a ≡ ownFactor b
+before-factor : (b : Certificate) (after : Lookup) → factorFrom Two (Found b) after ≡ Known (b .first)
 unfolding factor
-before-factor Nothing a = refl
-before-factor (Found b) Nothing = refl
-before-factor (Found b) (Found a) = refl
+before-factor b Nothing = refl
+before-factor b (Found a) = refl
 
 pub before-and-void : (r : Run) (ch : Chosen) → BeforeAndVoid r ch
 unfolding factorOf findingsFor classOf
-before-and-void r ch = record { factor = before-factor (ch .before) (ch .after); void = void }
+before-and-void r ch =
+    record {
+      factor = λ b before. rw before (before-factor b (ch .after));
+      missing = λ none. rw none;
+      void = void;
+    }
   where
     void : Breaks r ch (linesFor Two r ch) 5 0 → accepted (findings Two r ch (linesFor Two r ch)) ≡ true → ⊥
     void broken stands =

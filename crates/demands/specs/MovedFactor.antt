@@ -6,10 +6,8 @@ use mathlib.Core.List.{List, [], _∷_}
 use Rattle.readings.specs.declared.headers.Version.the-variants.{One, Two}
 use Rattle.records.specs.declared.Certificate.{Certificate}
 use Rattle.records.specs.declared.Run.{Run}
-use Rattle.values.specs.declared.Value.{Value}
 use Rattle.values.specs.declared.Value.the-variants.{Known, Missing}
 use Rattle.lines.specs.Starred.{workedLines}
-use Rattle.choosing.specs.declared.Lookup.{Lookup}
 use Rattle.choosing.specs.declared.Lookup.the-variants.{Found, Nothing}
 use Rattle.choosing.specs.declared.Chosen.{Chosen}
 use Rattle.grounds.specs.Comparing.{apart}
@@ -22,11 +20,6 @@ use Rattle.job.specs.Worked.{movedJob}
 use Rattle.reduction.specs.Reducing.{chosenIn}
 use Rattle.demands.specs.Demands.{SameRecords}
 use Rattle.demands.specs.Starred.{PrintedAs}
-
--- the factor of a certificate, where it was found
-abbrev pub ownFactor : Lookup → Value
-ownFactor Nothing = Missing
-ownFactor (Found c) = Known (c .first)
 
 -- twenty times the difference of two factors is above the first
 abbrev pub Moved : ℕ → ℕ → Type 0
@@ -52,7 +45,8 @@ pub record LowerAndNote (ch : Chosen) : Type 0 where
 
 -- In version 2 Y is always the before factor, and a run that breaks rule 5 is void
 pub record BeforeAndVoid (r : Run) (ch : Chosen) : Type 0 where
-  pub factor : factorOf Two ch ≡ ownFactor (ch .before)
+  pub factor : (b : Certificate) → ch .before ≡ Found b → factorOf Two ch ≡ Known (b .first)
+  pub missing : ch .before ≡ Nothing → factorOf Two ch ≡ Missing
   pub void : Breaks r ch (linesFor Two r ch) 5 0 → accepted (findingsFor Two r ch) ≡ true → ⊥
 
 -- Two jobs of whatever versions hold the same records, and the run does not break rule 5
