@@ -23,17 +23,53 @@ const fn instrument(maker: &[u8; 3], serial: u32) -> Instrument {
     }
 }
 
+/// The samples that stand among the examples with their sheets, by name.
+pub const WITH_SHEETS: [(&str, fn() -> Job); 9] = [
+    ("worked", worked),
+    ("several-runs", several_runs),
+    ("percent-limits", percent_limits),
+    ("weighing-limits", weighing_limits),
+    ("rebuilt-meter", rebuilt_meter),
+    ("rebuilt-meter-no-letter", rebuilt_meter_no_letter),
+    ("moved-factor", moved_factor),
+    ("moved-factor-version-2", moved_factor_version_2),
+    ("refused", refused),
+];
+
+/// Those that stand there without.
+pub const WITHOUT: [(&str, fn() -> Job); 2] = [
+    ("longest", longest),
+    ("longest-version-2", longest_version_2),
+];
+
 /// The job whose whole sheet the rules print: one accepted run with one note.
 pub fn worked() -> Job {
     Job {
         version: Version::One,
-        certificates: vec![
+        certificates: beside_the_meters(&[
             meter(ABC_METER, CALIBRATED, 10_000),
             meter(ABC_METER, RECALIBRATED, 9_800),
-            pitot(PITOT, CALIBRATED, 840),
-            nozzle(NOZZLE, CALIBRATED, [250, 250, 250]),
-        ],
+        ]),
         runs: vec![worked_run()],
+    }
+}
+
+/// The worked job's certificates, but with these of meters.
+fn beside_the_meters(meters: &[Certificate]) -> Vec<Certificate> {
+    let probe = [
+        pitot(PITOT, CALIBRATED, 840),
+        nozzle(NOZZLE, CALIBRATED, [250, 250, 250]),
+    ];
+    [meters, &probe].concat()
+}
+
+/// The worked job's run with that number, day and meter.
+fn with_meter(number: u16, day: u16, meter: Instrument) -> Run {
+    Run {
+        number,
+        day,
+        meter,
+        ..worked_run()
     }
 }
 
@@ -327,26 +363,18 @@ pub fn rebuilt_meter() -> Job {
         letter: b'A',
         ..ABC_METER
     };
-    let sampled = |number, day, meter| Run {
-        number,
-        day,
-        meter,
-        ..worked_run()
-    };
     Job {
         version: Version::Two,
-        certificates: vec![
+        certificates: beside_the_meters(&[
             meter(ABC_METER, CALIBRATED, 10_000),
             meter(ABC_METER, 9_005, 10_020),
             meter(rebuilt, 9_010, 9_800),
             meter(rebuilt, RECALIBRATED, 9_790),
-            pitot(PITOT, CALIBRATED, 840),
-            nozzle(NOZZLE, CALIBRATED, [250, 250, 250]),
-        ],
+        ]),
         runs: vec![
-            sampled(7, SAMPLED, ABC_METER),
-            sampled(8, 9_009, rebuilt),
-            sampled(9, 9_012, rebuilt),
+            with_meter(7, SAMPLED, ABC_METER),
+            with_meter(8, 9_009, rebuilt),
+            with_meter(9, 9_012, rebuilt),
         ],
     }
 }
@@ -366,24 +394,21 @@ pub fn rebuilt_meter_no_letter() -> Job {
 /// then 5 percent higher, which is not too much; higher by more; lower by more.
 pub fn moved_factor() -> Job {
     let [steady, risen, fallen] = [10_442, 10_443, 10_444].map(|serial| instrument(b"ABC", serial));
-    let sampled = |number, meter| Run {
-        number,
-        meter,
-        ..worked_run()
-    };
     Job {
         version: Version::One,
-        certificates: vec![
+        certificates: beside_the_meters(&[
             meter(steady, CALIBRATED, 10_000),
             meter(steady, RECALIBRATED, 10_500),
             meter(risen, CALIBRATED, 10_000),
             meter(risen, RECALIBRATED, 10_501),
             meter(fallen, CALIBRATED, 10_000),
             meter(fallen, RECALIBRATED, 9_499),
-            pitot(PITOT, CALIBRATED, 840),
-            nozzle(NOZZLE, CALIBRATED, [250, 250, 250]),
+        ]),
+        runs: vec![
+            with_meter(7, SAMPLED, steady),
+            with_meter(8, SAMPLED, risen),
+            with_meter(9, SAMPLED, fallen),
         ],
-        runs: vec![sampled(7, steady), sampled(8, risen), sampled(9, fallen)],
     }
 }
 

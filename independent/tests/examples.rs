@@ -1,74 +1,28 @@
 //! The committed examples are what the samples make today.
 
-use independent::{job::Job, samples, sheet};
+use std::fs;
+use std::path::Path;
 
-fn check(name: &str, job: &Job, file: &[u8], text: &[u8]) {
-    assert!(job.bytes() == file, "{name}.job is out of date");
-    assert!(sheet(file) == text, "{name}.txt is out of date");
-}
+use independent::{samples, sheet};
 
-macro_rules! example {
-    ($name:literal) => {
-        include_bytes!(concat!("../../examples/", $name))
-    };
+fn example(file: &str) -> Vec<u8> {
+    let folder = Path::new(concat!(env!("CARGO_MANIFEST_DIR"), "/../examples"));
+    fs::read(folder.join(file)).unwrap_or_else(|error| panic!("{file}: {error}"))
 }
 
 #[test]
-fn examples_are_current() {
-    check(
-        "worked",
-        &samples::worked(),
-        example!("worked.job"),
-        example!("worked.txt"),
-    );
-    check(
-        "several-runs",
-        &samples::several_runs(),
-        example!("several-runs.job"),
-        example!("several-runs.txt"),
-    );
-    check(
-        "percent-limits",
-        &samples::percent_limits(),
-        example!("percent-limits.job"),
-        example!("percent-limits.txt"),
-    );
-    check(
-        "weighing-limits",
-        &samples::weighing_limits(),
-        example!("weighing-limits.job"),
-        example!("weighing-limits.txt"),
-    );
-    check(
-        "rebuilt-meter",
-        &samples::rebuilt_meter(),
-        example!("rebuilt-meter.job"),
-        example!("rebuilt-meter.txt"),
-    );
-    check(
-        "rebuilt-meter-no-letter",
-        &samples::rebuilt_meter_no_letter(),
-        example!("rebuilt-meter-no-letter.job"),
-        example!("rebuilt-meter-no-letter.txt"),
-    );
-    check(
-        "moved-factor",
-        &samples::moved_factor(),
-        example!("moved-factor.job"),
-        example!("moved-factor.txt"),
-    );
-    check(
-        "moved-factor-version-2",
-        &samples::moved_factor_version_2(),
-        example!("moved-factor-version-2.job"),
-        example!("moved-factor-version-2.txt"),
-    );
-    check(
-        "refused",
-        &samples::refused(),
-        example!("refused.job"),
-        example!("refused.txt"),
-    );
-    assert!(samples::longest().bytes() == example!("longest.job"));
-    assert!(samples::longest_version_2().bytes() == example!("longest-version-2.job"));
+fn every_job_is_current() {
+    for (name, sample) in samples::WITH_SHEETS.iter().chain(&samples::WITHOUT) {
+        let file = format!("{name}.job");
+        assert!(sample().bytes() == example(&file), "{file} is out of date");
+    }
+}
+
+#[test]
+fn every_sheet_is_current() {
+    for (name, sample) in samples::WITH_SHEETS {
+        let file = format!("{name}.txt");
+        let text = sheet(&sample().bytes());
+        assert!(text == example(&file), "{file} is out of date");
+    }
 }
