@@ -1,5 +1,7 @@
 //! The program examples/runs.rs, on the jobs of the project.
 
+mod stored;
+
 use std::env;
 use std::fs::{self, File, OpenOptions};
 use std::path::{Path, PathBuf};
@@ -13,8 +15,7 @@ fn program() -> Command {
 }
 
 fn example(name: &str) -> PathBuf {
-    let package = Path::new(env!("CARGO_MANIFEST_DIR"));
-    package.join("../examples").join(name)
+    stored::examples().join(name)
 }
 
 fn ended(command: &mut Command) -> Output {
@@ -29,18 +30,10 @@ fn assert_ended(output: &Output, status: i32, out: &str, told: &str) {
 
 #[test]
 fn a_job_that_is_read_is_printed_in_words() {
-    for name in [
-        "worked",
-        "several-runs",
-        "percent-limits",
-        "weighing-limits",
-        "rebuilt-meter",
-        "rebuilt-meter-no-letter",
-        "moved-factor",
-        "moved-factor-version-2",
-    ] {
-        let job = example(&format!("{name}.job"));
-        let words = fs::read_to_string(example(&format!("{name}.words"))).expect("it is there");
+    let texts = stored::texts().into_iter();
+    for text in texts.filter(|text| text != &example("refused.txt")) {
+        let job = text.with_extension("job");
+        let words = fs::read_to_string(text.with_extension("words")).expect("it is there");
         assert_ended(&ended(program().arg(&job)), 0, &words, "");
         let input = File::open(&job).expect("it is there");
         assert_ended(&ended(program().stdin(input)), 0, &words, "");

@@ -1,21 +1,10 @@
 //! The text of each example, against the sheets stored beside it.
 
+mod stored;
+
 use std::fs;
-use std::path::{Path, PathBuf};
 
 use leverbonnet::{sheet_text, Error};
-
-fn examples() -> PathBuf {
-    Path::new(env!("CARGO_MANIFEST_DIR")).join("../examples")
-}
-
-fn stored_texts() -> Vec<PathBuf> {
-    let files = fs::read_dir(examples()).unwrap().map(|file| file.unwrap());
-    let texts = files.map(|file| file.path());
-    texts
-        .filter(|path| path.extension().map_or(false, |kind| kind == "txt"))
-        .collect()
-}
 
 /// What the program `sheet` prints.
 fn printed(job: &[u8]) -> Vec<u8> {
@@ -30,9 +19,7 @@ fn printed(job: &[u8]) -> Vec<u8> {
 
 #[test]
 fn each_example_has_its_stored_text() {
-    let texts = stored_texts();
-    assert!(texts.len() >= 3, "the stored texts are found");
-    for path in texts {
+    for path in stored::texts() {
         let job = fs::read(path.with_extension("job")).unwrap();
         let stored = fs::read(&path).unwrap();
         assert!(printed(&job) == stored, "{}", path.display());
@@ -45,7 +32,7 @@ fn bytes_past_the_longest_job_do_not_change_the_refusal() {
         ("longest.job", b"REFUSED 8 17161\n"),
         ("longest-version-2.job", b"REFUSED 8 17273\n"),
     ] {
-        let mut job = fs::read(examples().join(name)).unwrap();
+        let mut job = fs::read(stored::examples().join(name)).unwrap();
         job.resize(100_000, 0);
         assert_eq!(printed(&job), refused);
     }

@@ -1,6 +1,7 @@
 //! Temporary folders, and the project's own.
 
 use std::env;
+use std::ffi::OsStr;
 use std::fs::{self, Permissions};
 use std::io::Write;
 use std::ops::Deref;
@@ -27,6 +28,17 @@ pub fn example_bytes(name: &str) -> Vec<u8> {
 /// A text that is stored beside the examples.
 pub fn example_text(name: &str) -> String {
     String::from_utf8(example_bytes(name)).expect("stored sheets are text")
+}
+
+/// All examples whose name has that ending.
+pub fn examples(ending: &str) -> Vec<PathBuf> {
+    let files = fs::read_dir(project().join("examples")).expect("there are examples");
+    let paths = files.map(|file| file.expect("examples can be listed").path());
+    let such: Vec<PathBuf> = paths
+        .filter(|path| path.extension() == Some(OsStr::new(ending)))
+        .collect();
+    assert!(such.len() >= 3, "{} examples", such.len());
+    such
 }
 
 /// A folder with a space in its name that everybody may read. It is removed

@@ -1,6 +1,6 @@
 //! `sheet --words`: each job for a person.
 
-use crate::folder::{example_bytes, example_text};
+use crate::folder::{example, example_bytes, example_text, examples};
 use crate::run::{ended, ended_with_input, leverbonnet, shell, Ended};
 
 const GOOD: &str = "examples/worked.job";
@@ -13,28 +13,17 @@ fn in_words(words: &[&str]) -> Ended {
 /// and nothing else changed.
 #[test]
 fn the_words_hold_the_values_of_the_plain_sheet() {
-    for job in [
-        "worked",
-        "several-runs",
-        "percent-limits",
-        "weighing-limits",
-        "rebuilt-meter",
-        "rebuilt-meter-no-letter",
-        "moved-factor",
-        "moved-factor-version-2",
-        "longest",
-        "longest-version-2",
-    ] {
-        let file = format!("examples/{job}.job");
-        let plain = ended(&mut leverbonnet(&["sheet", &file])).out;
-        let words = in_words(&[&file]).out;
+    let jobs = examples("job").into_iter();
+    for job in jobs.filter(|job| job != &example("refused.job")) {
+        let plain = ended(leverbonnet(&["sheet"]).arg(&job)).out;
+        let words = ended(leverbonnet(&["sheet", "--words"]).arg(&job)).out;
         let plain: Vec<&str> = plain.lines().collect();
         let words: Vec<String> = words
             .lines()
             .filter(|line| !line.is_empty())
             .map(as_plain)
             .collect();
-        assert_eq!(words, plain, "{job}");
+        assert_eq!(words, plain, "{}", job.display());
     }
 }
 
