@@ -70,6 +70,7 @@ pub before-and-void : (r : Run) (ch : Chosen) → BeforeAndVoid r ch
 unfolding factorOf findingsFor classOf
 before-and-void r ch =
     record {
+      class = refl;
       factor = λ b before. rw before (before-factor b (ch .after));
       missing = λ none. rw none;
       void = void;

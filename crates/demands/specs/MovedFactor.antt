@@ -12,7 +12,7 @@ use Rattle.choosing.specs.declared.Lookup.the-variants.{Found, Nothing}
 use Rattle.choosing.specs.declared.Chosen.{Chosen}
 use Rattle.grounds.specs.Comparing.{apart}
 use Rattle.factors.specs.Factor.{factorOf}
-use Rattle.classes.specs.Classes.{note, classOf}
+use Rattle.classes.specs.Classes.{fault, note, classOf}
 use Rattle.findings.specs.Listing.{accepted, linesFor, findingsFor, Breaks}
 use Rattle.opening.specs.Opening.{versionOf}
 use Rattle.job.specs.Places.{runOf}
@@ -43,8 +43,9 @@ pub record LowerAndNote (ch : Chosen) : Type 0 where
   pub alone : (b : Certificate) → ch .before ≡ Found b → ch .after ≡ Nothing → factorOf One ch ≡ Known (b .first)
   pub missing : ch .before ≡ Nothing → factorOf One ch ≡ Missing
 
--- In version 2 Y is always the before factor, and a run that breaks rule 5 is void
+-- In version 2 a finding of rule 5 is a fault, so that a run which breaks it is void, and Y is always the before factor
 pub record BeforeAndVoid (r : Run) (ch : Chosen) : Type 0 where
+  pub class : classOf Two 5 ≡ fault
   pub factor : (b : Certificate) → ch .before ≡ Found b → factorOf Two ch ≡ Known (b .first)
   pub missing : ch .before ≡ Nothing → factorOf Two ch ≡ Missing
   pub void : Breaks r ch (linesFor Two r ch) 5 0 → accepted (findingsFor Two r ch) ≡ true → ⊥
