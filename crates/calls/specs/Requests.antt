@@ -6,7 +6,7 @@ use lib.ListN.{length}
 use Rattle.fields.specs.Numbers.{byteAt, u16At}
 use Rattle.output.specs.Answers.{packed}
 use Rattle.layouts.specs.Outcomes.{roundOutcome, rectangleOutcome}
-use Rattle.runs.specs.Outcomes.{countAnswer, numberAnswer}
+use Rattle.counting.specs.Counting.{countAnswer, numberAnswer}
 use Rattle.leverbonnet.specs.Calls.{Reduces, PrintsText, LaysOut}
 
 -- The call's number, the three numbers that it takes, the job, both outputs before and after, and the answer

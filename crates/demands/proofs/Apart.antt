@@ -37,7 +37,8 @@ use Rattle.printing.specs.Printing.{unprinted, printed, ifRoomy, unlessTrouble,
 use Rattle.printing.proofs.Lengths.{text-most}
 use Rattle.layouts.specs.Outcomes.{distanceSize, ifRoom, lentOutcome, layoutOutcome, roundOutcome, rectangleOutcome, layoutAnswer}
 use Rattle.handing.specs.Handing.{refused, reduced, handed, success, answerOf}
-use Rattle.runs.specs.Outcomes.{ofRun, ofTrouble, outcome, countOf, countAnswer, numberAt, numberAnswer}
+use Rattle.counting.specs.Counting.{countOf, countAnswer, numberAt, numberAnswer}
+use Rattle.runs.specs.Outcomes.{ofRun, ofTrouble, outcome}
 use Rattle.demands.specs.Demands.{Given, toReduce, toRunCount, toRunNumber, toSheetText, toRoundLayout, toRectLayout}
 use Rattle.output.specs.declared.Answer.{Answer}
 use Rattle.output.specs.declared.Answer.the-variants.{Done, Refused}

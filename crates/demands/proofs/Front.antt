@@ -15,7 +15,8 @@ use Rattle.job.proofs.Reach.{start-reach}
 use Rattle.job.proofs.WholeFile.{run-count}
 use Rattle.printing.specs.Jobs.{textOf, jobText}
 use Rattle.printing.specs.Printing.{printing, unlessTrouble}
-use Rattle.runs.specs.Outcomes.{ofTrouble, outcome, countOf, countAnswer, numberAt, numberAnswer}
+use Rattle.counting.specs.Counting.{countOf, countAnswer, numberAt, numberAnswer}
+use Rattle.runs.specs.Outcomes.{ofTrouble, outcome}
 use Rattle.demands.specs.Front.{Alike}
 use Rattle.demands.proofs.SameOutcomes.{reduces-same, prints-same}
 use Rattle.demands.proofs.Beyond.{prefix}

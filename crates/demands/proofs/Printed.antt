@@ -35,13 +35,13 @@ use Rattle.output.specs.Bytes.{le, joined}
 use Rattle.output.specs.Splice.{spliced}
 use Rattle.writing.specs.Bytes.{entryBytes, sheetBytes, findingBytes, findingsBytes}
 use Rattle.handing.specs.Handing.{handed, success, answerOf, linesAfter, findingsAfter}
-use Rattle.runs.specs.Outcomes.{outcome, countAnswer, numberAnswer}
+use Rattle.runs.specs.Outcomes.{outcome}
 use Rattle.lines.specs.Starred.{workedLines}
 use Rattle.demands.specs.Starred.{PrintedJob}
 use Rattle.demands.specs.MovedFactor.{Kept, Voided}
 
 computed : PrintedJob × (Kept × Voided)
-unfolding grown floorRoot nearestRoot roundDiv division within signedWithin sameIdentity sumTo time meteredVolume allowance leakLoss leakLosses correctedVolume meanOrifice meterPressure meterTemperature dryVolume waterVapor moisture unlessZero addScaled nozzleArea drawnGas isokinetic deduction finalWeights tares catch concentration metering stack sampling lines sheet dryWeight wetWeight stackPressure stackTemperature pointRoot meanRoot densityRoot velocity eligible keep chosen chosenFor holds deciding apart factorMoved lowerIfMoved factor factorOf coefficientOf diametersOf broken brokenAt findingAt ruleFindings findingsTo findings accepted listed linesFor findingsFor missing moved uneven diameter halfDiameter undisturbed minimumPoints nextOf nextGrid nextAllowed short leaking lineAgainst ratioAgainst steadyLimit unsteady table groundOf partOf ofKind besideOf placesOf placeAt classOf u16At u32At i16At versionOf first checks upTo padded filledTo recordTrouble runAt runStart readJob anyTo partsTrouble runTrouble numberBefore jobTrouble worked reduction chosenIn reducedRun runNamed packed le spliced joined entryBytes sheetBytes findingBytes findingsBytes handed outcome success answerOf linesAfter findingsAfter countAnswer numberAnswer workedLines
+unfolding grown floorRoot nearestRoot roundDiv division within signedWithin sameIdentity sumTo time meteredVolume allowance leakLoss leakLosses correctedVolume meanOrifice meterPressure meterTemperature dryVolume waterVapor moisture unlessZero addScaled nozzleArea drawnGas isokinetic deduction finalWeights tares catch concentration metering stack sampling lines sheet dryWeight wetWeight stackPressure stackTemperature pointRoot meanRoot densityRoot velocity eligible keep chosen chosenFor holds deciding apart factorMoved lowerIfMoved factor factorOf coefficientOf diametersOf broken brokenAt findingAt ruleFindings findingsTo findings accepted listed linesFor findingsFor missing moved uneven diameter halfDiameter undisturbed minimumPoints nextOf nextGrid nextAllowed short leaking lineAgainst ratioAgainst steadyLimit unsteady table groundOf partOf ofKind besideOf placesOf placeAt classOf u16At u32At i16At versionOf first checks upTo padded filledTo recordTrouble runAt runStart readJob anyTo partsTrouble runTrouble numberBefore jobTrouble worked reduction chosenIn reducedRun runNamed packed le spliced joined entryBytes sheetBytes findingBytes findingsBytes handed outcome success answerOf linesAfter findingsAfter workedLines
 computed = (
   record { answer = refl; lines = refl; findings = refl },
   (record { answer = refl; lines = refl; findings = refl }, record { answer = refl; lines = refl; findings = refl }),

@@ -24,7 +24,8 @@ use Rattle.writing.specs.Bytes.{lineSize, entryBytes, sheetSize, sheetBytes, fi
 use Rattle.printing.specs.Printing.{printing, printingAnswer}
 use Rattle.layouts.specs.Outcomes.{roundOutcome, rectangleOutcome, layoutAnswer}
 use Rattle.handing.specs.Handing.{success, answerOf}
-use Rattle.runs.specs.Outcomes.{outcome, countAnswer, numberAnswer}
+use Rattle.counting.specs.Counting.{countAnswer, numberAnswer}
+use Rattle.runs.specs.Outcomes.{outcome}
 use Rattle.leverbonnet.specs.Calls.{Reduces}
 use Rattle.demands.specs.ReadingOrder.{numberOf, GoodJob}
 use Rattle.demands.specs.Table.{CallRefused}

@@ -4,7 +4,7 @@ use mathlib.Core.Path.{_≡_}
 use mathlib.Core.List.{List}
 use mathlib.Core.Logic.{_↔_}
 use Rattle.printing.specs.Jobs.{jobText}
-use Rattle.runs.specs.Outcomes.{countAnswer, numberAnswer}
+use Rattle.counting.specs.Counting.{countAnswer, numberAnswer}
 use Rattle.leverbonnet.specs.Calls.{Reduces, PrintsText}
 
 -- every call on a file promises the same of both, and the same is printed of both

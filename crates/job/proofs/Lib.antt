@@ -3,3 +3,4 @@ pub mod ClearJobs
 pub mod ClearRuns
 pub mod Reach
 pub mod WholeFile
+pub mod ReadJobs

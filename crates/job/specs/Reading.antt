@@ -1,5 +1,6 @@
 -- The job that is read from a file: its first trouble, or how many certificates it holds and where each run starts.
 use Prim.Native.Nat.{ℕ}
+use mathlib.Core.Path.{_≡_}
 use mathlib.Core.List.{List}
 use lib.ListN.{replicate}
 use Rattle.readings.specs.Ranges.{greatestRunCount}
@@ -29,3 +30,8 @@ jobOf (At number place) s = refusedJob (At number place)
 -- The job in a file
 unfoldable pub readJob : List ℕ → Job
 readJob s = jobOf (jobTrouble s) s
+
+-- a job read from a file that is in no trouble
+pub record ClearJob (s : List ℕ) (j : Job) : Type 0 where
+  pub is : j ≡ readJob s
+  pub clear : jobTrouble s ≡ Clear

@@ -1,11 +1,11 @@
 // The public calls. Each takes any bytes and any numbers, and its contract says what comes back and what every lent byte then is.
-// Relies on the calls for runs, for the printed text and for layouts, and on `output`, which makes an answer one number.
+// Relies on the calls for runs and their numbers, for the printed text and for layouts, and on `output`, which makes an answer one number.
 
 ghost use mathlib.Core.Path.{_≡_};
 ghost use Rattle.output.specs.Answers.{packed};
 ghost use lib.ListN.{length};
 ghost use Rattle.layouts.specs.Outcomes.{roundOutcome, rectangleOutcome};
-ghost use Rattle.runs.specs.Outcomes.{countAnswer, numberAnswer};
+ghost use Rattle.counting.specs.Counting.{countAnswer, numberAnswer};
 ghost use Rattle.leverbonnet.specs.Calls.{Reduces, PrintsText, LaysOut};
 
 // Works the run of that number: 180 bytes of lines, 4 bytes a finding.
@@ -26,7 +26,7 @@ pub extern "C" fn leverbonnet_reduce(
 pub extern "C" fn leverbonnet_run_count(job: &[u8]) -> u64
     ensures { λ r. ⌜ r ≡ packed (countAnswer (now (job .entry))) ⌝ }
 {
-    runs::run_count(job).packed()
+    counting::run_count(job).packed()
 }
 
 // The number of a job's run, by its index from 0 in file order.
@@ -34,7 +34,7 @@ pub extern "C" fn leverbonnet_run_count(job: &[u8]) -> u64
 pub extern "C" fn leverbonnet_run_number(job: &[u8], index: u16) -> u64
     ensures { λ r. ⌜ r ≡ packed (numberAnswer (now (job .entry)) index) ⌝ }
 {
-    runs::run_number(job, index).packed()
+    counting::run_number(job, index).packed()
 }
 
 // The characters that the program `sheet` prints for a job that is read.

@@ -7,11 +7,10 @@ use borrow.Author.Tests.{lt-ltb, le-ltb}
 use lib.ListN.{length, take}
 use Rattle.fields.specs.declared.trouble.Trouble.the-variants.{At}
 use Rattle.job.specs.declared.Job.{Job}
-use Rattle.job.specs.Reading.{readJob}
+use Rattle.job.specs.Reading.{readJob, ClearJob}
+use Rattle.job.proofs.ReadJobs.{count-of-runs, read-refused}
 use Rattle.output.specs.declared.Answer.{Answer}
 use Rattle.output.specs.declared.Answer.the-variants.{Done, Refused}
-use Rattle.reduction.specs.Reducing.{ClearJob}
-use Rattle.reduction.proofs.ClearJobs.{count-of-runs, read-refused}
 use Rattle.characters.specs.Writing.{Wrote}
 use Rattle.characters.proofs.Texts.{written-end, written-front}
 use Rattle.printing.specs.Jobs.{runsText, jobText}

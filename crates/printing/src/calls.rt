@@ -6,7 +6,7 @@ use characters::put_word;
 use fields::trouble::Trouble;
 use job::Job;
 use output::Answer;
-ghost use Rattle.reduction.specs.Reducing.{ClearJob};
+ghost use Rattle.job.specs.Reading.{ClearJob};
 ghost use Rattle.printing.specs.Printing.{PrintsClear, Prints};
 
 // The text of a job without trouble, by way of a buffer with room for any: how long it is shows only once it is

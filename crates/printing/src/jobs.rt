@@ -9,7 +9,7 @@ use text::runs::put_run;
 ghost use Prim.Native.Nat.{_≤_};
 ghost use lib.ListN.{length};
 ghost use Rattle.characters.specs.Writing.{Room, Wrote};
-ghost use Rattle.reduction.specs.Reducing.{ClearJob};
+ghost use Rattle.job.specs.Reading.{ClearJob};
 ghost use Rattle.printing.specs.Jobs.{refusalText, runsText, jobText};
 
 // Room for the text of any file: sixteen runs, each with all of its findings.

@@ -1,4 +1,4 @@
--- What a clear job offers to the work on its runs.
+-- The laws of a run reduced, which the layers above cite.
 pub mod ClearJobs
 pub mod Working
 pub mod Naming

@@ -1,12 +1,10 @@
 -- A run reduced: from its record, the certificates chosen for it and the job's version to its lines and its findings. Certificates
 -- are a function of an index, a run and a version are values; a job's file is one source of them.
 use Prim.Native.Nat.{ℕ, zero, suc, _≤_, _<_}
-use mathlib.Core.Path.{_≡_}
 use mathlib.Core.Bool.{cond}
 use mathlib.Core.List.{List}
 use lib.Dec.{eqb}
 use lib.ListN.{length}
-use Rattle.fields.specs.declared.trouble.Trouble.the-variants.{Clear}
 use Rattle.readings.specs.declared.headers.Version.{Version}
 use Rattle.records.specs.declared.Certificate.{Certificate}
 use Rattle.records.specs.declared.Run.{Run}
@@ -20,8 +18,7 @@ use Rattle.heads.specs.Values.{certificatePlace, certificateOf}
 use Rattle.job.specs.declared.Job.{Job}
 use Rattle.opening.specs.Opening.{versionOf, certificateCountOf, runCountOf}
 use Rattle.job.specs.Places.{runOf}
-use Rattle.job.specs.Reading.{readJob}
-use Rattle.job.specs.Troubles.{jobTrouble}
+use Rattle.job.specs.Reading.{ClearJob}
 use Rattle.reduction.specs.declared.Reduced.{Reduced}
 use Rattle.reduction.specs.declared.Which.{Which}
 use Rattle.reduction.specs.declared.Which.the-variants.{Index, NoRun}
@@ -60,10 +57,6 @@ pub record ReducibleFrom (s : List ℕ) (n : ℕ) (r : Run) : Type 0 where
   pub reducible : Reducible (certificateOf s) n r
 
 -- a job read from it without trouble, and one of its runs
-pub record ClearJob (s : List ℕ) (j : Job) : Type 0 where
-  pub is : j ≡ readJob s
-  pub clear : jobTrouble s ≡ Clear
-
 pub record ClearRun (s : List ℕ) (j : Job) (k : ℕ) : Type 0 where
   pub job : ClearJob s j
   pub inside : k < runCountOf s

@@ -12,7 +12,8 @@ ghost use mathlib.Core.Path.{_≡_};
 ghost use Rattle.opening.specs.Opening.{versionOf};
 ghost use Rattle.heads.specs.Values.{certificateOf};
 ghost use Rattle.job.specs.Places.{runOf};
-ghost use Rattle.reduction.specs.Reducing.{ReducibleFrom, ClearJob, ClearRun, reduction, runNamed, reducedRun};
+ghost use Rattle.job.specs.Reading.{ClearJob};
+ghost use Rattle.reduction.specs.Reducing.{ReducibleFrom, ClearRun, reduction, runNamed, reducedRun};
 
 // A run's number, whether it stands, its sheet and its findings.
 pub struct Reduced {

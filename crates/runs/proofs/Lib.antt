@@ -1,2 +1,2 @@
--- The laws that the calls' proofs share.
+-- The laws that the call's proof cites.
 pub mod Outcomes

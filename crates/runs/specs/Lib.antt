@@ -1,2 +1,2 @@
--- What comes of the calls for a job's runs.
+-- What comes of the call for one of a job's runs.
 pub mod Outcomes

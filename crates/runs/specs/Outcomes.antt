@@ -1,8 +1,6 @@
--- What comes of the calls for a job's runs: decided by the job and by the lengths of the lent outputs, before a byte is written.
+-- What comes of the call for one of a job's runs: decided by the job and by the lengths of the lent outputs, before a byte is written.
 use Prim.Native.Nat.{ℕ}
-use mathlib.Core.Bool.{cond}
 use mathlib.Core.List.{List}
-use lib.Dec.{leb}
 use lib.ListN.{length}
 use Rattle.fields.specs.declared.trouble.Trouble.{Trouble}
 use Rattle.fields.specs.declared.trouble.Trouble.the-variants.{Clear, At}
@@ -13,7 +11,6 @@ use Rattle.reduction.specs.declared.Which.{Which}
 use Rattle.reduction.specs.declared.Which.the-variants.{Index, NoRun}
 use Rattle.reduction.specs.Reducing.{reducedRun, runNamed}
 use Rattle.output.specs.declared.Answer.{Answer}
-use Rattle.output.specs.declared.Answer.the-variants.{Done, Refused}
 use Rattle.output.specs.Answers.{unknownRun}
 use Rattle.handing.specs.Handing.{Outcome, refused, handed, Came}
 
@@ -34,19 +31,3 @@ outcome s run lines findings = ofTrouble (jobTrouble s) s run lines findings
 -- a run asked for by its number, with these two buffers lent
 abbrev pub Answers : List ℕ → ℕ → List ℕ → List ℕ → List ℕ → List ℕ → Answer → Type 0
 Answers s run lines findings linesOut findingsOut a = Came (outcome s run (length lines) (length findings)) lines findings linesOut findingsOut a
-
--- How many runs there are
-abbrev pub countOf : Trouble → List ℕ → Answer
-countOf (At number place) s = Refused number place
-countOf Clear s = Done (runCountOf s)
-
-unfoldable pub countAnswer : List ℕ → Answer
-countAnswer s = countOf (jobTrouble s) s
-
--- The number of a run: an index past the last is refused 10
-abbrev pub numberAt : Trouble → List ℕ → ℕ → Answer
-numberAt (At number place) s index = Refused number place
-numberAt Clear s index = cond (leb (runCountOf s) index) (Refused unknownRun 0) (Done (runOf s index .header .number))
-
-unfoldable pub numberAnswer : List ℕ → ℕ → Answer
-numberAnswer s index = numberAt (jobTrouble s) s index

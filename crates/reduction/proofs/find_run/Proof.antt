@@ -5,7 +5,8 @@ use mathlib.Core.Logic.{inl, inr, ⊎-elim}
 use mathlib.Core.Path.{_≡_, _∙_, ap}
 use Rattle.fields.specs.Numbers.{u16At}
 use Rattle.reduction.specs.Reducing.{runNamed}
-use Rattle.reduction.proofs.ClearJobs.{few-runs, count-of-runs, start-of, number-left, Sought, sought-none, sought-more}
+use Rattle.job.proofs.ReadJobs.{few-runs, count-of-runs, start-of, number-left}
+use Rattle.reduction.proofs.Naming.{Sought, sought-none, sought-more}
 use native.Mathlib.Nat.{le-antisymm}
 use Prim.Native.Nat.{_-_, _≤_}
 use Rattle.reduction.proofs.find_run.Statement.{statement}

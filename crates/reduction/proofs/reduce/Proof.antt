@@ -2,7 +2,8 @@
 use native.Mathlib.Omega.{arith}
 use mathlib.Core.Path.{_∙_, ap, _≡_}
 use Rattle.reduction.specs.Reducing.{reduction, reducedRun, ReducibleFrom, ClearRun}
-use Rattle.reduction.proofs.ClearJobs.{few-runs, count-of-runs, count-of-certificates, start-of, lies-within, workable}
+use Rattle.job.proofs.ReadJobs.{few-runs, count-of-runs, count-of-certificates, start-of, lies-within}
+use Rattle.reduction.proofs.ClearJobs.{workable}
 use Prim.Native.Nat.{ℕ}
 use mathlib.Core.List.{List}
 use lib.ListN.{getD}

@@ -5,7 +5,8 @@ use mathlib.Core.Path.{_≡_, refl, _∙_, sym}
 use Rattle.job.specs.Reading.{refusedJob, readJob}
 use Rattle.job.proofs.WholeFile.{header-refuses}
 use Rattle.reduction.specs.Reducing.{ClearRun}
-use Rattle.reduction.proofs.ClearJobs.{read-clear, count-of-runs, found-few, place-fits}
+use Rattle.job.proofs.ReadJobs.{read-clear, count-of-runs, place-fits}
+use Rattle.reduction.proofs.ClearJobs.{found-few}
 use Rattle.reduction.proofs.Naming.{found-inside}
 use Rattle.handing.proofs.Handing.{came-refused, came-same}
 use Rattle.runs.proofs.Outcomes.{refused-by-reader, no-run, one-run}

@@ -1,7 +1,7 @@
 -- Each way through the call is what comes of its case.
 use borrow.Author.Needs.{needs}
 use native.Mathlib.Omega.{arith}
-use Rattle.reduction.proofs.ClearJobs.{read-clear, place-fits}
+use Rattle.job.proofs.ReadJobs.{read-clear, place-fits}
 use Rattle.characters.specs.Writing.{Wrote}
 use Rattle.characters.proofs.Texts.{written-end}
 use Rattle.printing.specs.Jobs.{jobText}

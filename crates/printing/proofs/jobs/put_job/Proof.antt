@@ -7,7 +7,7 @@ use mathlib.Core.List.{List}
 use Rattle.fields.specs.declared.trouble.Trouble.the-variants.{At}
 use Rattle.job.specs.declared.Job.{Job}
 use Rattle.job.specs.Reading.{readJob}
-use Rattle.reduction.proofs.ClearJobs.{read-refused, read-clear}
+use Rattle.job.proofs.ReadJobs.{read-refused, read-clear}
 use Rattle.characters.specs.Writing.{Wrote}
 use Rattle.printing.specs.Jobs.{refusalText, jobText}
 use Rattle.printing.proofs.Lengths.{refusal-short}

@@ -2,7 +2,8 @@
 use Prim.Native.Nat.{_-_, _≤_}
 use native.Mathlib.Omega.{arith}
 use Rattle.reduction.specs.Reducing.{ClearRun, reducedRun}
-use Rattle.reduction.proofs.ClearJobs.{count-of-runs, few-runs, found-few}
+use Rattle.job.proofs.ReadJobs.{count-of-runs, few-runs}
+use Rattle.reduction.proofs.ClearJobs.{found-few}
 use Rattle.output.specs.Bytes.{joined}
 use Rattle.characters.specs.Writing.{Room, Wrote}
 use Rattle.characters.proofs.Texts.{joined-none, joined-room, joined-more, joined-all}

@@ -1,10 +1,10 @@
 -- The reader's refusal, none past the last run, or the number at the run's start.
 use borrow.Author.Needs.{needs}
 use native.Mathlib.Omega.{arith}
-use Rattle.reduction.proofs.ClearJobs.{read-clear, few-runs, number-left, place-fits}
-use Rattle.runs.proofs.Outcomes.{number-refused, number-past, number-done}
-use Rattle.runs.proofs.run_number.Statement.{statement}
-use Rattle.runs.proofs.run_number.Tie as tie
+use Rattle.job.proofs.ReadJobs.{read-clear, few-runs, number-left, place-fits}
+use Rattle.counting.proofs.Counting.{number-refused, number-past, number-done}
+use Rattle.counting.proofs.run_number.Statement.{statement}
+use Rattle.counting.proofs.run_number.Tie as tie
 
 read-requires : tie.Need-read-requires
 read-requires c κs = search needs

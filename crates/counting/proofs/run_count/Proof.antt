@@ -1,10 +1,10 @@
 -- The reader's refusal, or its count.
 use borrow.Author.Needs.{needs}
 use native.Mathlib.Omega.{arith}
-use Rattle.reduction.proofs.ClearJobs.{read-clear, few-runs, place-fits}
-use Rattle.runs.proofs.Outcomes.{count-refused, count-done}
-use Rattle.runs.proofs.run_count.Statement.{statement}
-use Rattle.runs.proofs.run_count.Tie as tie
+use Rattle.job.proofs.ReadJobs.{read-clear, few-runs, place-fits}
+use Rattle.counting.proofs.Counting.{count-refused, count-done}
+use Rattle.counting.proofs.run_count.Statement.{statement}
+use Rattle.counting.proofs.run_count.Tie as tie
 
 read-requires : tie.Need-read-requires
 read-requires c κs = search needs

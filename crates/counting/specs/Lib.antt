@@ -1,0 +1,2 @@
+-- What the calls that count a job's runs answer.
+pub mod Counting
