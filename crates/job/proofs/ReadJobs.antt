@@ -1,4 +1,4 @@
--- A job that was read: its trouble is its file's, and without trouble its counts are the file's too, and its runs start and lie there.
+-- A job that was read: its trouble is its file's. Without trouble its counts are the file's too, and each run starts where the file has it and ends within.
 use Prim.Native.Nat.{ℕ, _^_, _≤_, _<_}
 use mathlib.Core.Path.{_≡_, refl, sym, _∙_, ap, subst⁻¹}
 use mathlib.Core.List.{List}
