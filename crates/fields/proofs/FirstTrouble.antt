@@ -4,7 +4,7 @@ use mathlib.Core.Path.{_≡_, refl, sym, _∙_, ap, ap₂}
 use mathlib.Core.Bool.{Bool, true, false, false≢true, _&&_}
 use mathlib.Core.Logic.{⊎-elim}
 use mathlib.Core.List.{List, [], _∷_, _++_}
-use native.Mathlib.Nat.{zero-add, le-of-suc-le-suc, le-antisymm, eq-or-lt-of-le}
+use native.Mathlib.Nat.{zero-add, le-of-suc-le-suc, le-antisymm, eq-or-lt-of-le, lt-suc-self}
 use native.Mathlib.Numerals.{add-one}
 use native.Mathlib.Omega.{arith}
 use borrow.Author.Tests.{leb-true}
@@ -81,7 +81,7 @@ checks-first t (r ∷ rs) =
     checks-first (first t own) rs ∙ first-assoc t own (checks Clear rs) ∙ ap (first t) (sym (checks-first own rs))
 
 -- rows and then others: those of the first, and then the others'
-checks-both : (t : Trouble) (rs qs : List Row) → checks t (rs ++ qs) ≡ checks (checks t rs) qs
+pub checks-both : (t : Trouble) (rs qs : List Row) → checks t (rs ++ qs) ≡ checks (checks t rs) qs
 unfolding checks
 checks-both t [] qs = refl
 checks-both t (r ∷ rs) qs = checks-both _ rs qs
@@ -150,6 +150,12 @@ unfolding first
 first-told P Clear u e f = f
 first-told P (At n p) u e f = e
 
+-- the later one need be spoken of only where the earlier is clear
+pub later-told : (P : ℕ → ℕ → Bool) (t u : Trouble) → told P t ≡ true → (t ≡ Clear → told P u ≡ true) → told P (first t u) ≡ true
+unfolding first
+later-told P Clear u e f = f refl
+later-told P (At n p) u e f = e
+
 pub unless-told : (P : ℕ → ℕ → Bool) (ok : Bool) (n p : ℕ) → P n p ≡ true → told P (troubleUnless ok n p) ≡ true
 unless-told P true n p e = refl
 unless-told P false n p e = e
@@ -201,10 +207,10 @@ each-clear f (suc n) e i h =
     (λ less. each-clear f n (clear-left (upTo f n) (f n) e) i less)
     (eq-or-lt-of-le (le-of-suc-le-suc h))
 
-pub up-told : (P : ℕ → ℕ → Bool) (f : ℕ → Trouble) (n : ℕ) → ((i : ℕ) → told P (f i) ≡ true) → told P (upTo f n) ≡ true
+pub up-told : (P : ℕ → ℕ → Bool) (f : ℕ → Trouble) (n : ℕ) → ((i : ℕ) → i < n → told P (f i) ≡ true) → told P (upTo f n) ≡ true
 unfolding upTo
 up-told P f zero h = refl
-up-told P f (suc n) h = first-told P (upTo f n) (f n) (up-told P f n h) (h n)
+up-told P f (suc n) h = first-told P (upTo f n) (f n) (up-told P f n (λ i less. h i (omega arith))) (h n (lt-suc-self n))
 
 -- A loop over records, where r is the trouble of the next one
 

@@ -55,6 +55,10 @@ wrongSeconds = 7
 abbrev pub leftOver : ℕ
 leftOver = 8
 
+-- whatever is wrong with a figure
+abbrev pub badFigure : ℕ
+badFigure = 14
+
 -- A record
 
 -- a row of a record's table: the refusal, the field's place in the record, whether the field is good

@@ -30,6 +30,9 @@ impl Trouble {
 
     pub const LEFT_OVER: u32 = 8;
 
+    // Whatever is wrong with a figure.
+    pub const FIGURE: u32 = 14;
+
     // The trouble met so far, or else this one, unless all is well.
     pub fn unless(self, ok: bool, number: u32, place: usize) -> Trouble
         ensures { λ r. ⌜ r ≡ unless self ok number place ⌝ }

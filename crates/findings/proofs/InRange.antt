@@ -10,6 +10,7 @@ use Rattle.lines.specs.declared.Lines.{Lines}
 use Rattle.metering.specs.Metering.{time, meteredVolume, metering}
 use Rattle.lines.specs.Sheet.{lines}
 use Rattle.choosing.specs.declared.Chosen.{Chosen}
+use Rattle.steps.specs.declared.Figure.{Figure}
 use Rattle.rules.specs.declared.Beside.{Beside}
 use Rattle.classes.specs.Classes.{placesOf}
 use Rattle.rules.specs.Rules.{Judgeable}
@@ -41,6 +42,6 @@ module _ (r : Run) (l : Lines) (w : Worked r l) where
   weighing-in e h = lt-of-lt-of-le (inside-weighings _ e h) weighings-in
 
   -- Any rule can be judged beside what it may see of the run
-  pub judgeable : (ch : Chosen) {beside : Beside} → beside ≡ besideOf r ch l → Judgeable beside
+  pub judgeable : (fig : Figure) (ch : Chosen) {beside : Beside} → beside ≡ besideOf fig r ch l → Judgeable beside
   unfolding besideOf
-  judgeable ch is = rw is (record { time = worked-time r l w; volume = worked-volume r l w })
+  judgeable fig ch is = rw is (record { time = worked-time r l w; volume = worked-volume r l w })

@@ -11,6 +11,7 @@ use Rattle.readings.specs.declared.headers.Version.{Version}
 use Rattle.records.specs.declared.Run.{Run}
 use Rattle.lines.specs.declared.Lines.{Lines}
 use Rattle.choosing.specs.declared.Chosen.{Chosen}
+use Rattle.steps.specs.declared.Figure.{Figure}
 use Rattle.findings.specs.declared.Finding.{Finding}
 use Rattle.classes.specs.Classes.{placesOf, placeAt}
 use Rattle.rules.specs.Rules.{lastRule}
@@ -94,14 +95,14 @@ module _ (v : Version) (isBroken : ℕ → ℕ → Bool) (places : ℕ → ℕ) 
           Memᴰ·append-left (ruleFindings v (isBroken (k + 1)) (k + 1) (places (k + 1))) (earlier (le-of-suc-le-suc l))
 
 -- Demand 3, the list: a finding of a rule at a place is in it if and only if the run breaks that rule at that place
-pub listed-exactly : (v : Version) (r : Run) (ch : Chosen) (l : Lines) (rule place : ℕ) → HasFinding (findings v r ch l) rule place ↔ Breaks r ch l rule place
+pub listed-exactly : (v : Version) (fig : Figure) (r : Run) (ch : Chosen) (l : Lines) (rule place : ℕ) → HasFinding (findings v fig r ch l) rule place ↔ Breaks fig r ch l rule place
 unfolding findings findingAt
-listed-exactly v r ch l rule place = (found, present)
+listed-exactly v fig r ch l rule place = (found, present)
   where
-    found : HasFinding (findings v r ch l) rule place → Breaks r ch l rule place
+    found : HasFinding (findings v fig r ch l) rule place → Breaks fig r ch l rule place
     found h =
-        let o : OfRules v (brokenAt r ch l) (placesOf (r .header .counts)) lastRule (getD (findings v r ch l) (h .index) noFinding) =
-        all-members v (brokenAt r ch l) (placesOf (r .header .counts)) lastRule (at-index (findings v r ch l) (h .index) (h .inside)) in
+        let o : OfRules v (brokenAt fig r ch l) (placesOf (r .header .counts)) lastRule (getD (findings v fig r ch l) (h .index) noFinding) =
+        all-members v (brokenAt fig r ch l) (placesOf (r .header .counts)) lastRule (at-index (findings v fig r ch l) (h .index) (h .inside)) in
         let number : o .rule ≡ rule = sym (ap (λ (f : Finding). f .rule) (o .of .is)) ∙ h .same .0 in
         let there : placeAt (o .rule) (o .of .index) ≡ place = sym (ap (λ (f : Finding). f .place) (o .of .is)) ∙ h .same .1 in
         rw (← number, ← there)
@@ -114,9 +115,9 @@ listed-exactly v r ch l rule place = (found, present)
           broken = o .of .broken;
         })
 
-    present : Breaks r ch l rule place → HasFinding (findings v r ch l) rule place
+    present : Breaks fig r ch l rule place → HasFinding (findings v fig r ch l) rule place
     present b =
-        let (i, (inside, is)) = index-of (all-hold v (brokenAt r ch l) (placesOf (r .header .counts)) lastRule rule (b .index) (b .first) (b .last) (b .inside) (b .broken)) in
+        let (i, (inside, is)) = index-of (all-hold v (brokenAt fig r ch l) (placesOf (r .header .counts)) lastRule rule (b .index) (b .first) (b .last) (b .inside) (b .broken)) in
         record {
           index = i;
           inside = inside;

@@ -24,6 +24,7 @@ use Rattle.lines.specs.declared.Lines.{Lines}
 use Rattle.choosing.specs.declared.Lookup.{Lookup}
 use Rattle.choosing.specs.declared.Lookup.the-variants.{Found, Nothing}
 use Rattle.choosing.specs.declared.Chosen.{Chosen}
+use Rattle.steps.specs.declared.Figure.{Figure}
 use Rattle.grounds.specs.declared.comparison.Way.the-variants.{Below, Above, Same}
 use Rattle.grounds.specs.Comparing.{holds, deciding, compareExactly}
 use Rattle.rules.specs.declared.Beside.{Beside}
@@ -178,9 +179,9 @@ weighed-once ws n many few le kinds = go (decLe 1 n)
     go (no none) =
         omega (arith, bit-le (broken (lacking (ofKind filterKind ws n))), bit-le (broken (lacking (ofKind rinseKind ws n))))
 
-module _ (v : Version) (r : Run) (ch : Chosen) (l : Lines) (w : Worked r l) where
+module _ (v : Version) (fig : Figure) (r : Run) (ch : Chosen) (l : Lines) (w : Worked r l) where
   -- rules 12 to 16 together
-  lines-once : bit (brokenAt r ch l 12 0) + (bit (brokenAt r ch l 14 0) + (bit (brokenAt r ch l 15 0) + bit (brokenAt r ch l 16 0))) ≤ 1
+  lines-once : bit (brokenAt fig r ch l 12 0) + (bit (brokenAt fig r ch l 14 0) + (bit (brokenAt fig r ch l 15 0) + bit (brokenAt fig r ch l 16 0))) ≤ 1
   unfolding besideOf brokenAt table groundOf
   lines-once =
       zero-once _ _ (zero-once _ _ (percent-once _) (λ e. percent-missing _ (no-flow r l w e)))
@@ -193,15 +194,15 @@ module _ (v : Version) (r : Run) (ch : Chosen) (l : Lines) (w : Worked r l) wher
 
   -- how many findings rule number `rule` has
   has : ℕ → ℕ
-  has rule = many v (brokenAt r ch l) (placesOf (r .header .counts)) rule
+  has rule = many v (brokenAt fig r ch l) (placesOf (r .header .counts)) rule
 
   has-le : (rule : ℕ) → has rule ≤ placesOf (r .header .counts) rule
   unfolding has
-  has-le rule = many-le v (brokenAt r ch l) (placesOf (r .header .counts)) rule
+  has-le rule = many-le v (brokenAt fig r ch l) (placesOf (r .header .counts)) rule
 
-  has-whole : (rule : ℕ) → placesOf (r .header .counts) rule ≡ 1 → has rule ≡ bit (brokenAt r ch l rule 0)
+  has-whole : (rule : ℕ) → placesOf (r .header .counts) rule ≡ 1 → has rule ≡ bit (brokenAt fig r ch l rule 0)
   unfolding has
-  has-whole rule e = many-whole v (brokenAt r ch l) (placesOf (r .header .counts)) rule e
+  has-whole rule e = many-whole v (brokenAt fig r ch l) (placesOf (r .header .counts)) rule e
 
   three-and-six : has 3 + has 6 ≤ 1
   unfolding placesOf besideOf brokenAt table groundOf
@@ -229,7 +230,7 @@ module _ (v : Version) (r : Run) (ch : Chosen) (l : Lines) (w : Worked r l) wher
       let kind = w .ok .weighings i inside .kind in
       (within-least _ _ _ kind, within-greatest _ _ _ kind)))
 
-  all-fit : length (findingsTo v (brokenAt r ch l) (placesOf (r .header .counts)) lastRule) ≤ mostFindings
+  all-fit : length (findingsTo v (brokenAt fig r ch l) (placesOf (r .header .counts)) lastRule) ≤ mostFindings
   unfolding placesOf sumTo has
   all-fit =
       let points : r .header .counts .points ≤ greatestPointCount = within-greatest _ _ _ (w .ok .header .points) in
@@ -242,19 +243,19 @@ module _ (v : Version) (r : Run) (ch : Chosen) (l : Lines) (w : Worked r l) wher
       let eight : has 8 ≤ 1 = has-le 8 in
       let nine : has 9 ≤ 1 = has-le 9 in
       let twenty : has 20 ≤ 1 = has-le 20 in
-      omega (arith, many-all v (brokenAt r ch l) (placesOf (r .header .counts)) lastRule, three-and-six, four-and-five, twelve-to-sixteen, no-thirteen, seventeen-to-nineteen)
+      omega (arith, many-all v (brokenAt fig r ch l) (placesOf (r .header .counts)) lastRule, three-and-six, four-and-five, twelve-to-sixteen, no-thirteen, seventeen-to-nineteen)
 
   -- the same where what stands beside is known only to be the run's
-  pub all-fit-beside : {beside : Beside} → beside ≡ besideOf r ch l → length (findingsTo v (λ rule i. broken (groundOf (partOf r rule i) beside rule)) (placesOf (r .header .counts)) lastRule) ≤ mostFindings
+  pub all-fit-beside : {beside : Beside} → beside ≡ besideOf fig r ch l → length (findingsTo v (λ rule i. broken (groundOf (partOf r rule i) beside rule)) (placesOf (r .header .counts)) lastRule) ≤ mostFindings
   unfolding brokenAt
   all-fit-beside is = rw is all-fit
 
   -- At most 98 findings
-  pub at-most : length (findings v r ch l) ≤ mostFindings
+  pub at-most : length (findings v fig r ch l) ≤ mostFindings
   unfolding findings
   at-most = all-fit
 
 -- with the lines that a run in range gives
-pub at-most-for : (v : Version) (r : Run) (ch : Chosen) → RunOk r → length (findingsFor v r ch) ≤ mostFindings
+pub at-most-for : (v : Version) (fig : Figure) (r : Run) (ch : Chosen) → RunOk r → length (findingsFor v fig r ch) ≤ mostFindings
 unfolding linesFor findingsFor
-at-most-for v r ch ok = at-most v r ch (linesFor v r ch) (record { ok = ok; y = _; cp = _; nozzle = _; is = refl })
+at-most-for v fig r ch ok = at-most v fig r ch (linesFor v r ch) (record { ok = ok; y = _; cp = _; nozzle = _; is = refl })

@@ -22,6 +22,7 @@ use Rattle.conditions.specs.declared.Part.{Part}
 use Rattle.conditions.specs.declared.Part.the-variants.{Whole, OnePoint, OneSegment, OneWeighing}
 use Rattle.rules.specs.declared.Beside.{Beside}
 use Rattle.grounds.specs.Grounds.{broken}
+use Rattle.steps.specs.declared.Figure.{Figure}
 use Rattle.site.specs.Site.{minimumPoints}
 use Rattle.classes.specs.Classes.{placesOf, placeAt, fault, classOf}
 use Rattle.rules.specs.Rules.{lastRule, groundOf}
@@ -42,9 +43,9 @@ oneOfKind kind w = cond (eqb (w .kind) kind) 1 0
 unfoldable pub ofKind : ℕ → List Weighing → ℕ → ℕ
 ofKind kind weighings n = sumTo (λ i. oneOfKind kind (getD weighings i noWeighing)) n
 
--- what the rules may see of a run beside their part
-unfoldable pub besideOf : Run → Chosen → Lines → Beside
-besideOf r ch l =
+-- what the rules may see of a run beside their part, with the least number of points by that figure
+unfoldable pub besideOf : Figure → Run → Chosen → Lines → Beside
+besideOf fig r ch l =
     record {
       chosen = ch;
       lines = l;
@@ -52,12 +53,12 @@ besideOf r ch l =
       counts = r .header .counts;
       filters = ofKind filterKind (r .weighings) (r .header .counts .weighings);
       rinses = ofKind rinseKind (r .weighings) (r .header .counts .weighings);
-      least = minimumPoints (r .header .site);
+      least = minimumPoints fig (r .header .site);
     }
 
 -- a rule is broken at its place i
-unfoldable pub brokenAt : Run → Chosen → Lines → ℕ → ℕ → Bool
-brokenAt r ch l rule i = broken (groundOf (partOf r rule i) (besideOf r ch l) rule)
+unfoldable pub brokenAt : Figure → Run → Chosen → Lines → ℕ → ℕ → Bool
+brokenAt fig r ch l rule i = broken (groundOf (partOf r rule i) (besideOf fig r ch l) rule)
 
 -- the finding of a rule at its place i, in a job of that version
 unfoldable pub findingAt : Version → ℕ → ℕ → Finding
@@ -74,9 +75,9 @@ findingsTo v isBroken places zero = []
 findingsTo v isBroken places (suc k) =
     findingsTo v isBroken places k ++ ruleFindings v (isBroken (k + 1)) (k + 1) (places (k + 1))
 
--- The findings of a run of a job of that version
-unfoldable pub findings : Version → Run → Chosen → Lines → List Finding
-findings v r ch l = findingsTo v (brokenAt r ch l) (placesOf (r .header .counts)) lastRule
+-- The findings of a run of a job of that version, judged by that figure
+unfoldable pub findings : Version → Figure → Run → Chosen → Lines → List Finding
+findings v fig r ch l = findingsTo v (brokenAt fig r ch l) (placesOf (r .header .counts)) lastRule
 
 -- no finding is a fault
 unfoldable pub accepted : List Finding → Bool
@@ -95,12 +96,12 @@ noFinding = record { rule = 0; class = 0; place = 0 }
 unfoldable pub listed : List Finding → Findings
 listed fs = record { count = length fs; list = filledTo mostFindings noFinding fs }
 
--- the lines of a run with its chosen certificates, in a job of that version, and the findings that those lines give
+-- the lines of a run with its chosen certificates, in a job of that version, and the findings that those lines give by that figure
 unfoldable pub linesFor : Version → Run → Chosen → Lines
 linesFor v r ch = lines r (factorOf v ch) (coefficientOf ch) (diametersOf ch)
 
-unfoldable pub findingsFor : Version → Run → Chosen → List Finding
-findingsFor v r ch = findings v r ch (linesFor v r ch)
+unfoldable pub findingsFor : Version → Figure → Run → Chosen → List Finding
+findingsFor v fig r ch = findings v fig r ch (linesFor v r ch)
 
 -- a run in range, with lines of its own, whatever certificates gave the values that they are worked with
 pub record Worked (r : Run) (l : Lines) : Type 0 where
@@ -112,14 +113,14 @@ pub record Worked (r : Run) (l : Lines) : Type 0 where
 
 -- What the list is promised to be, in the words of docs/RULES.md
 
--- a run breaks a rule at a place: from rule 1 to the last, at one of its places
-pub record Breaks (r : Run) (ch : Chosen) (l : Lines) (rule place : ℕ) : Type 0 where
+-- a run, judged by that figure, breaks a rule at a place: from rule 1 to the last, at one of its places
+pub record Breaks (fig : Figure) (r : Run) (ch : Chosen) (l : Lines) (rule place : ℕ) : Type 0 where
   pub first : 1 ≤ rule
   pub last : rule ≤ lastRule
   pub index : ℕ
   pub inside : index < placesOf (r .header .counts) rule
   pub there : place ≡ placeAt rule index
-  pub broken : brokenAt r ch l rule index ≡ true
+  pub broken : brokenAt fig r ch l rule index ≡ true
 
 -- a list holds a finding of that rule at that place
 pub record HasFinding (fs : List Finding) (rule place : ℕ) : Type 0 where

@@ -11,6 +11,7 @@ use readings::weighings::WeighingKind;
 use records::Run;
 use rules::Beside;
 use site::minimum_points;
+use steps::Figure;
 use weighings::of_kind;
 ghost use mathlib.Core.Path.{_≡_};
 ghost use Prim.Native.Nat.{_≤_};
@@ -35,9 +36,9 @@ pub struct Findings {
 }
 
 // What the rules may see of a run beside the part that each looks at.
-fn beside_of(run: Run, chosen: Chosen, lines: Lines) -> Beside
+fn beside_of(figure: Figure, run: Run, chosen: Chosen, lines: Lines) -> Beside
     requires { ⌜ run .header .counts .weighings ≤ greatestWeighingCount ⌝ }
-    ensures { λ r. ⌜ r ≡ besideOf run chosen lines ⌝ }
+    ensures { λ r. ⌜ r ≡ besideOf figure run chosen lines ⌝ }
 {
     let header = run.header;
     let site = header.site;
@@ -50,7 +51,7 @@ fn beside_of(run: Run, chosen: Chosen, lines: Lines) -> Beside
         counts: counts,
         filters: of_kind(WeighingKind::FILTER, weighings, counts.weighings),
         rinses: of_kind(WeighingKind::RINSE, weighings, counts.weighings),
-        least: minimum_points(site),
+        least: minimum_points(figure, site),
     }
 }
 
@@ -65,16 +66,16 @@ fn finding_at(v: Version, rule: u8, i: u8) -> Finding
     }
 }
 
-// The findings of a run of a job of that version, by rule and then by place.
-pub fn find(v: Version, run: Run, chosen: Chosen, lines: Lines) -> Findings
+// The findings of a run of a job of that version, judged by that figure, by rule and then by place.
+pub fn find(v: Version, figure: Figure, run: Run, chosen: Chosen, lines: Lines) -> Findings
     requires { ⌜ Worked run lines ⌝ }
-    ensures { λ r. ⌜ r ≡ listed (findings v run chosen lines) ⌝ }
+    ensures { λ r. ⌜ r ≡ listed (findings v figure run chosen lines) ⌝ }
 {
     let header = run.header;
     let points = run.points;
     let segments = run.segments;
     let weighings = run.weighings;
-    let beside = beside_of(run, chosen, lines);
+    let beside = beside_of(figure, run, chosen, lines);
     let mut found = Findings {
         count: 0,
         list: [Finding {

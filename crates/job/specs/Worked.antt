@@ -48,9 +48,10 @@ versionNumber Two = 2
 abbrev pub plain : Version → ℕ → List ℕ
 plain v serial = abcBytes serial (replicate (letters v 1) noLetter)
 
--- The worked job, the later factor of its meter `after`, its one segment lasting `seconds`
-abbrev pub varied : Version → ℕ → ℕ → List ℕ
-varied v after seconds =
+-- The worked job, the later factor of its meter `after`, the last disturbance so far off, so many points of so many seconds each, its one
+-- segment lasting `seconds`
+abbrev pub varied : Version → ℕ → ℕ → ℕ → ℕ → ℕ → List ℕ
+varied v after last points each seconds =
     headerBytes (versionNumber v) 4 1
     ++ certificateBytes 1 (plain v 10442) 8990 10000 0 0
     ++ certificateBytes 1 (plain v 10442) 9020 after 0 0
@@ -61,26 +62,30 @@ varied v after seconds =
     -- Pb, Pg, CO2, O2, readings, water
     ++ (le16 3000 ++ minus16 68 ++ le16 120 ++ le16 60 ++ le32 100000 ++ le32 140000 ++ le16 1000)
     -- round, its sides, the distances
-    ++ ((1 ∷ []) ++ le16 240 ++ le16 0 ++ le16 480 ++ le16 1920)
+    ++ ((1 ∷ []) ++ le16 240 ++ le16 0 ++ le16 480 ++ le16 last)
     -- acetone
     ++ (le16 8 ++ le16 200 ++ le16 100 ++ le16 7851)
-    -- eight points, one segment, two weighings
-    ++ (8 ∷ 1 ∷ 2 ∷ 0 ∷ [])
-    ++ times 8 (le16 450 ++ le16 500 ++ le16 200 ++ le16 2000 ++ le16 800 ++ le16 800)
+    -- points, one segment, two weighings
+    ++ (points ∷ 1 ∷ 2 ∷ 0 ∷ [])
+    ++ times points (le16 each ++ le16 500 ++ le16 200 ++ le16 2000 ++ le16 800 ++ le16 800)
     ++ (le16 seconds ++ le16 30)
     ++ ((1 ∷ 0 ∷ []) ++ le32 4000 ++ le32 4912 ++ le32 4910)
     ++ ((2 ∷ 0 ∷ []) ++ le32 1000000 ++ le32 1000153 ++ le32 1000150)
 
 abbrev pub workedJob : Version → List ℕ
-workedJob v = varied v 9800 3600
+workedJob v = varied v 9800 1920 8 450 3600
 
 -- its segment lasting so long
 abbrev pub lasting : Version → ℕ → List ℕ
-lasting v seconds = varied v 9800 seconds
+lasting v seconds = varied v 9800 1920 8 450 seconds
 
 -- its meter's factor moved by more than 5 percent, downwards
 abbrev pub movedJob : Version → List ℕ
-movedJob v = varied v 9499 3600
+movedJob v = varied v 9499 1920 8 450 3600
+
+-- its last disturbance nearer than eight diameters, with so many points in the same time
+abbrev pub nearJob : ℕ → ℕ → List ℕ
+nearJob points each = varied One 9800 1919 points each 3600
 
 -- How many certificates and runs it is read to hold, and where its run starts
 

@@ -6,6 +6,7 @@ ghost use Rattle.output.specs.Answers.{packed};
 ghost use lib.ListN.{length};
 ghost use Rattle.layouts.specs.Outcomes.{roundOutcome, rectangleOutcome};
 ghost use Rattle.counting.specs.Counting.{countAnswer, numberAnswer};
+ghost use Rattle.figures.specs.Figures.{noneSupplied, readFigure};
 ghost use Rattle.leverbonnet.specs.Calls.{Reduces, PrintsText, LaysOut};
 
 // Works the run of that number: 180 bytes of lines, 4 bytes a finding.
@@ -16,9 +17,23 @@ pub extern "C" fn leverbonnet_reduce(
     lines: &mut [u8],
     findings: &mut [u8],
 ) -> u64
-    ensures { λ r. ⌜ Reduces (now (job .entry)) run (now (lines .entry)) (now (findings .entry)) (now (lines .exit)) (now (findings .exit)) r ⌝ }
+    ensures { λ r. ⌜ Reduces noneSupplied (now (job .entry)) run (now (lines .entry)) (now (findings .entry)) (now (lines .exit)) (now (findings .exit)) r ⌝ }
 {
     runs::reduce(job, run, lines, findings).packed()
+}
+
+// The same by a figure, which is judged before the job is read.
+#[no_mangle]
+pub extern "C" fn leverbonnet_reduce_by_figure(
+    figure: &[u8],
+    job: &[u8],
+    run: u16,
+    lines: &mut [u8],
+    findings: &mut [u8],
+) -> u64
+    ensures { λ r. ⌜ Reduces (readFigure (now (figure .entry))) (now (job .entry)) run (now (lines .entry)) (now (findings .entry)) (now (lines .exit)) (now (findings .exit)) r ⌝ }
+{
+    runs::reduce_by_figure(figure, job, run, lines, findings).packed()
 }
 
 // How many runs a job holds.
@@ -40,9 +55,17 @@ pub extern "C" fn leverbonnet_run_number(job: &[u8], index: u16) -> u64
 // The characters that the program `sheet` prints for a job that is read.
 #[no_mangle]
 pub extern "C" fn leverbonnet_sheet_text(job: &[u8], out: &mut [u8]) -> u64
-    ensures { λ r. ⌜ PrintsText (now (job .entry)) (now (out .entry)) (now (out .exit)) r ⌝ }
+    ensures { λ r. ⌜ PrintsText noneSupplied (now (job .entry)) (now (out .entry)) (now (out .exit)) r ⌝ }
 {
-    printing::calls::sheet_text(job, out).packed()
+    printing::calls::sheet_text(steps::none(), job, out).packed()
+}
+
+// The same by a figure, which is judged before the job is read.
+#[no_mangle]
+pub extern "C" fn leverbonnet_sheet_text_by_figure(figure: &[u8], job: &[u8], out: &mut [u8]) -> u64
+    ensures { λ r. ⌜ PrintsText (readFigure (now (figure .entry))) (now (job .entry)) (now (out .entry)) (now (out .exit)) r ⌝ }
+{
+    printing::calls::sheet_text_by_figure(figure, job, out).packed()
 }
 
 // Lays out a round stack: points on the diameter, diameter in 0.1 in, nozzle in 0.001 in; 4 bytes a distance.

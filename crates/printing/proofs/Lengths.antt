@@ -6,6 +6,7 @@ use native.Mathlib.Omega.{arith}
 use lib.ListN.{length, length-append}
 use Rattle.fields.specs.declared.trouble.Trouble.{Trouble}
 use Rattle.fields.specs.declared.trouble.Trouble.the-variants.{Clear, At}
+use Rattle.steps.specs.declared.Figure.{Figure}
 use Rattle.opening.specs.Opening.{versionOf, runCountOf}
 use Rattle.job.specs.Places.{runOf}
 use Rattle.job.specs.Troubles.{jobTrouble}
@@ -20,10 +21,10 @@ use Rattle.text.specs.Runs.{runText}
 use Rattle.text.proofs.Lengths.{run-short}
 use Rattle.printing.specs.Jobs.{refusedWord, refusalText, runsText, textOf, jobText}
 
-pub runs-short : (s : List ℕ) → jobTrouble s ≡ Clear → length (runsText s (runCountOf s)) ≤ 27088
+pub runs-short : (fig : Figure) (s : List ℕ) → jobTrouble s ≡ Clear → length (runsText fig s (runCountOf s)) ≤ 27088
 unfolding runsText reducedRun reduction chosenIn
-runs-short s clear =
-    let all = joined-short (λ k. runText (reducedRun s k)) (runCountOf s) 1693 (λ k inside. run-short (versionOf s) (runOf s k) (chosenIn s k) (clear-run s clear k inside)) in
+runs-short fig s clear =
+    let all = joined-short (λ k. runText (reducedRun fig s k)) (runCountOf s) 1693 (λ k inside. run-short (versionOf s) fig (runOf s k) (chosenIn s k) (clear-run s clear k inside)) in
     omega (arith, all, run-count s (job-clear s clear .file))
 
 pub refusal-short : (number place : ℕ) → length (refusalText number place) ≤ 50
@@ -36,10 +37,10 @@ refusal-short number place =
     omega (arith, one, two, three, four, decimal-short number, decimal-short place)
 
 -- A length that suffices for the text of any file
-pub text-most : (s : List ℕ) → length (jobText s) ≤ 27088
+pub text-most : (fig : Figure) (s : List ℕ) → length (jobText fig s) ≤ 27088
 unfolding jobText
-text-most s = most-of (jobTrouble s) refl
+text-most fig s = most-of (jobTrouble s) refl
   where
-    most-of : (t : Trouble) → jobTrouble s ≡ t → length (textOf t s) ≤ 27088
-    most-of Clear e = runs-short s e
+    most-of : (t : Trouble) → jobTrouble s ≡ t → length (textOf t fig s) ≤ 27088
+    most-of Clear e = runs-short fig s e
     most-of (At number place) e = omega (arith, refusal-short number place)

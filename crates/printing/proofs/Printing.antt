@@ -5,7 +5,9 @@ use mathlib.Core.List.{List}
 use native.Mathlib.Omega.{arith}
 use borrow.Author.Tests.{lt-ltb, le-ltb}
 use lib.ListN.{length, take}
-use Rattle.fields.specs.declared.trouble.Trouble.the-variants.{At}
+use Rattle.fields.specs.declared.trouble.Trouble.the-variants.{Clear, At}
+use Rattle.steps.specs.declared.Figure.{Figure}
+use Rattle.figures.specs.declared.Supplied.{Supplied}
 use Rattle.job.specs.declared.Job.{Job}
 use Rattle.job.specs.Reading.{readJob, ClearJob}
 use Rattle.job.proofs.ReadJobs.{count-of-runs, read-refused}
@@ -14,34 +16,43 @@ use Rattle.output.specs.declared.Answer.the-variants.{Done, Refused}
 use Rattle.characters.specs.Writing.{Wrote}
 use Rattle.characters.proofs.Texts.{written-end, written-front}
 use Rattle.printing.specs.Jobs.{runsText, jobText}
-use Rattle.printing.specs.Printing.{ifRoomy, printing, printingAnswer, printingOut, PrintsClear, Prints}
+use Rattle.printing.specs.Printing.{ifRoomy, printing, printingAnswer, printingOut, PrintsClear, Prints, PrintsBy}
 use Rattle.printing.proofs.Lengths.{text-most}
 
 -- the text of a job without trouble is that of its runs
-pub text-of-runs : (s : List ℕ) (j : Job) → ClearJob s j → runsText s (j .runs) ≡ jobText s
+pub text-of-runs : (fig : Figure) (s : List ℕ) (j : Job) → ClearJob s j → runsText fig s (j .runs) ≡ jobText fig s
 unfolding jobText
-text-of-runs s j ok = rw (ok .clear) (ap (runsText s) (count-of-runs s j ok))
+text-of-runs fig s j ok = rw (ok .clear) (ap (runsText fig s) (count-of-runs s j ok))
 
 -- a text's length fits 32 bits
-pub end-fits : (s : List ℕ) {end : ℕ} → end ≡ length (jobText s) → end < 2 ^ 32
-end-fits s e = omega (arith, text-most s)
+pub end-fits : (fig : Figure) (s : List ℕ) {end : ℕ} → end ≡ length (jobText fig s) → end < 2 ^ 32
+end-fits fig s e = omega (arith, text-most fig s)
 
-pub refused-by-reader : (s : List ℕ) {j : Job} {n p : ℕ} (old : List ℕ) → j ≡ readJob s → j .trouble ≡ At n p → Prints s old old (Refused n p)
+pub refused-by-reader : (fig : Figure) (s : List ℕ) {j : Job} {n p : ℕ} (old : List ℕ) → j ≡ readJob s → j .trouble ≡ At n p → Prints fig s old old (Refused n p)
 unfolding printing printingAnswer printingOut
-refused-by-reader s old e t = rw (read-refused s e t) (record { answer = refl; out = refl })
+refused-by-reader fig s old e t = rw (read-refused s e t) (record { answer = refl; out = refl })
 
-pub refused-short : (s : List ℕ) (old : List ℕ) {end : ℕ} → end ≡ length (jobText s) → length old < end → PrintsClear s old old (Refused 9 0)
+pub refused-short : (fig : Figure) (s : List ℕ) (old : List ℕ) {end : ℕ} → end ≡ length (jobText fig s) → length old < end → PrintsClear fig s old old (Refused 9 0)
 unfolding ifRoomy printingAnswer printingOut
-refused-short s old e short = rw (lt-ltb (length old) (length (jobText s)) (rw e at short)) (record { answer = refl; out = refl })
+refused-short fig s old e short = rw (lt-ltb (length old) (length (jobText fig s)) (rw e at short)) (record { answer = refl; out = refl })
 
-pub handed-over : (s : List ℕ) (old : List ℕ) {out : List ℕ} {end : ℕ} → length (jobText s) ≤ length old → Wrote old 0 (jobText s) out end → PrintsClear s old out (Done end)
+pub handed-over : (fig : Figure) (s : List ℕ) (old : List ℕ) {out : List ℕ} {end : ℕ} → length (jobText fig s) ≤ length old → Wrote old 0 (jobText fig s) out end → PrintsClear fig s old out (Done end)
 unfolding ifRoomy printingAnswer printingOut
-handed-over s old room w =
-    rw (le-ltb (length old) (length (jobText s)) room) (record { answer = ap Done (written-end w); out = w .is })
+handed-over fig s old room w =
+    rw (le-ltb (length old) (length (jobText fig s)) room) (record { answer = ap Done (written-end w); out = w .is })
 
-pub of-clear : (s : List ℕ) (j : Job) {old out : List ℕ} {a : Answer} → ClearJob s j → PrintsClear s old out a → Prints s old out a
+pub of-clear : (fig : Figure) (s : List ℕ) (j : Job) {old out : List ℕ} {a : Answer} → ClearJob s j → PrintsClear fig s old out a → Prints fig s old out a
 unfolding printing
-of-clear s j ok p = rw (ok .clear) p
+of-clear fig s j ok p = rw (ok .clear) p
+
+-- By what is supplied for a figure: its trouble comes first, and without one the figure decides
+
+pub refused-by-figure : (f : Supplied) {g : Supplied} (s : List ℕ) {n p : ℕ} (old : List ℕ) → g ≡ f → g .trouble ≡ At n p → PrintsBy f s old old (Refused n p)
+unfolding printingAnswer printingOut
+refused-by-figure f s old e told = rw (← e, told) (record { answer = refl; out = refl })
+
+pub by-good-figure : (f : Supplied) {g : Supplied} (s : List ℕ) {old out : List ℕ} {a : Answer} → g ≡ f → g .trouble ≡ Clear → Prints (g .figure) s old out a → PrintsBy f s old out a
+by-good-figure f s e clear p = rw (← e, clear) p
 
 -- a text that stands at the front of a buffer
 pub record Beside (text buffer : List ℕ) (end : ℕ) : Type 0 where

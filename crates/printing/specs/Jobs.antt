@@ -3,6 +3,7 @@ use Prim.Native.Nat.{ℕ}
 use mathlib.Core.List.{List, [], _∷_, _++_}
 use Rattle.fields.specs.declared.trouble.Trouble.{Trouble}
 use Rattle.fields.specs.declared.trouble.Trouble.the-variants.{Clear, At}
+use Rattle.steps.specs.declared.Figure.{Figure}
 use Rattle.opening.specs.Opening.{runCountOf}
 use Rattle.job.specs.Troubles.{jobTrouble}
 use Rattle.reduction.specs.Reducing.{reducedRun}
@@ -19,15 +20,15 @@ refusedWord = 82 ∷ 69 ∷ 70 ∷ 85 ∷ 83 ∷ 69 ∷ 68 ∷ 32 ∷ []
 unfoldable pub refusalText : ℕ → ℕ → List ℕ
 refusalText number place = refusedWord ++ decimal number ++ space ++ decimal place ++ newline
 
--- the first n runs, in file order
-unfoldable pub runsText : List ℕ → ℕ → List ℕ
-runsText s n = joined (λ k. runText (reducedRun s k)) n
+-- the first n runs, in file order, by that figure
+unfoldable pub runsText : Figure → List ℕ → ℕ → List ℕ
+runsText fig s n = joined (λ k. runText (reducedRun fig s k)) n
 
 -- a refused job prints only its refusal
-abbrev pub textOf : Trouble → List ℕ → List ℕ
-textOf Clear s = runsText s (runCountOf s)
-textOf (At number place) s = refusalText number place
+abbrev pub textOf : Trouble → Figure → List ℕ → List ℕ
+textOf Clear fig s = runsText fig s (runCountOf s)
+textOf (At number place) fig s = refusalText number place
 
--- All that is printed of a file
-unfoldable pub jobText : List ℕ → List ℕ
-jobText s = textOf (jobTrouble s) s
+-- All that is printed of a file, by that figure
+unfoldable pub jobText : Figure → List ℕ → List ℕ
+jobText fig s = textOf (jobTrouble s) fig s

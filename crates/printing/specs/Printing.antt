@@ -1,4 +1,5 @@
--- What comes of the call for a job's text: decided by the job and by the length of the output, before a byte of it is written.
+-- What comes of the call for a job's text: decided by the figure, by the job and by the length of the output, before a byte of it is
+-- written.
 use Prim.Native.Nat.{ℕ}
 use mathlib.Core.Path.{_≡_}
 use mathlib.Core.Bool.{cond}
@@ -7,6 +8,8 @@ use lib.Dec.{ltb}
 use lib.ListN.{length}
 use Rattle.fields.specs.declared.trouble.Trouble.{Trouble}
 use Rattle.fields.specs.declared.trouble.Trouble.the-variants.{Clear, At}
+use Rattle.steps.specs.declared.Figure.{Figure}
+use Rattle.figures.specs.declared.Supplied.{Supplied}
 use Rattle.job.specs.Troubles.{jobTrouble}
 use Rattle.output.specs.Answers.{shortOutput}
 use Rattle.output.specs.declared.Answer.{Answer}
@@ -20,17 +23,26 @@ pub data Printing : Type 0 where
   printed : List ℕ → Printing
 
 -- 9: the output is shorter than what the program prints of the job
-unfoldable pub ifRoomy : List ℕ → ℕ → Printing
-ifRoomy s room = cond (ltb room (length (jobText s))) (unprinted shortOutput 0) (printed (jobText s))
+unfoldable pub ifRoomy : Figure → List ℕ → ℕ → Printing
+ifRoomy fig s room = cond (ltb room (length (jobText fig s))) (unprinted shortOutput 0) (printed (jobText fig s))
 
 -- the reader's 1 to 8 come first
-abbrev pub unlessTrouble : Trouble → List ℕ → ℕ → Printing
-unlessTrouble (At number place) s room = unprinted number place
-unlessTrouble Clear s room = ifRoomy s room
+abbrev pub unlessTrouble : Trouble → Figure → List ℕ → ℕ → Printing
+unlessTrouble (At number place) fig s room = unprinted number place
+unlessTrouble Clear fig s room = ifRoomy fig s room
 
--- From the job's bytes and the output's length
-unfoldable pub printing : List ℕ → ℕ → Printing
-printing s room = unlessTrouble (jobTrouble s) s room
+-- From a figure, the job's bytes and the output's length
+unfoldable pub printing : Figure → List ℕ → ℕ → Printing
+printing fig s room = unlessTrouble (jobTrouble s) fig s room
+
+-- 14, before the job is read
+abbrev pub unprintedIfBad : Trouble → Printing → Printing
+unprintedIfBad (At number place) p = unprinted number place
+unprintedIfBad Clear p = p
+
+-- From what is supplied for a figure
+abbrev pub printingBy : Supplied → List ℕ → ℕ → Printing
+printingBy f s room = unprintedIfBad (f .trouble) (printing (f .figure) s room)
 
 -- the answer: the refusal, or how many characters
 unfoldable pub printingAnswer : Printing → Answer
@@ -48,8 +60,12 @@ pub record Printed (p : Printing) (old new : List ℕ) (a : Answer) : Type 0 whe
   pub out : new ≡ printingOut p old
 
 -- of a job without trouble, and of any
-abbrev pub PrintsClear : List ℕ → List ℕ → List ℕ → Answer → Type 0
-PrintsClear s old new a = Printed (ifRoomy s (length old)) old new a
+abbrev pub PrintsClear : Figure → List ℕ → List ℕ → List ℕ → Answer → Type 0
+PrintsClear fig s old new a = Printed (ifRoomy fig s (length old)) old new a
 
-abbrev pub Prints : List ℕ → List ℕ → List ℕ → Answer → Type 0
-Prints s old new a = Printed (printing s (length old)) old new a
+abbrev pub Prints : Figure → List ℕ → List ℕ → List ℕ → Answer → Type 0
+Prints fig s old new a = Printed (printing fig s (length old)) old new a
+
+-- and by what is supplied for a figure
+abbrev pub PrintsBy : Supplied → List ℕ → List ℕ → List ℕ → Answer → Type 0
+PrintsBy f s old new a = Printed (printingBy f s (length old)) old new a

@@ -1,4 +1,4 @@
-// The call for the text of a job, with its answer as an enum.
+// The calls for the text of a job, by a figure or without one, with their answer as an enum.
 
 use crate::jobs::ROOM;
 use crate::jobs::put_runs;
@@ -6,17 +6,19 @@ use characters::put_word;
 use fields::trouble::Trouble;
 use job::Job;
 use output::Answer;
+use steps::Figure;
+ghost use Rattle.figures.specs.Figures.{readFigure};
 ghost use Rattle.job.specs.Reading.{ClearJob};
-ghost use Rattle.printing.specs.Printing.{PrintsClear, Prints};
+ghost use Rattle.printing.specs.Printing.{PrintsClear, Prints, PrintsBy};
 
 // The text of a job without trouble, by way of a buffer with room for any: how long it is shows only once it is
 // written, and an output that turns out too short stays as it was.
-fn put_by_way(s: &[u8], job: Job, out: &mut [u8]) -> Answer
+fn put_by_way(figure: Figure, s: &[u8], job: Job, out: &mut [u8]) -> Answer
     requires { ⌜ ClearJob (now s) job ⌝ }
-    ensures { λ r. ⌜ PrintsClear (now (s .entry)) (now (out .entry)) (now (out .exit)) r ⌝ }
+    ensures { λ r. ⌜ PrintsClear figure (now (s .entry)) (now (out .entry)) (now (out .exit)) r ⌝ }
 {
     let mut way = [0u8; ROOM];
-    let end = put_runs(s, job, &mut way);
+    let end = put_runs(figure, s, job, &mut way);
     if out.len() < end {
         return Answer::Refused(Answer::SHORT_OUTPUT, 0);
     }
@@ -24,9 +26,9 @@ fn put_by_way(s: &[u8], job: Job, out: &mut [u8]) -> Answer
     Answer::Done(end as u32)
 }
 
-// Writes the text of a job into an output of any length, or refuses before a byte is written.
-pub fn sheet_text(s: &[u8], out: &mut [u8]) -> Answer
-    ensures { λ r. ⌜ Prints (now (s .entry)) (now (out .entry)) (now (out .exit)) r ⌝ }
+// Writes the text of a job, by a figure, into an output of any length, or refuses before a byte is written.
+pub fn sheet_text(figure: Figure, s: &[u8], out: &mut [u8]) -> Answer
+    ensures { λ r. ⌜ Prints figure (now (s .entry)) (now (out .entry)) (now (out .exit)) r ⌝ }
 {
     let read = job::read(s);
     let trouble = read.trouble;
@@ -34,7 +36,19 @@ pub fn sheet_text(s: &[u8], out: &mut [u8]) -> Answer
         return Answer::Refused(number, place as u32);
     }
     if out.len() < ROOM {
-        return put_by_way(s, read, out);
+        return put_by_way(figure, s, read, out);
     }
-    Answer::Done(put_runs(s, read, out) as u32)
+    Answer::Done(put_runs(figure, s, read, out) as u32)
+}
+
+// The same by the figure in a file, which is judged before the job is read.
+pub fn sheet_text_by_figure(figure: &[u8], s: &[u8], out: &mut [u8]) -> Answer
+    ensures { λ r. ⌜ PrintsBy (readFigure (now (figure .entry))) (now (s .entry)) (now (out .entry)) (now (out .exit)) r ⌝ }
+{
+    let supplied = figures::read(figure);
+    let trouble = supplied.trouble;
+    if let Trouble::At(number, place) = trouble {
+        return Answer::Refused(number, place as u32);
+    }
+    sheet_text(supplied.figure, s, out)
 }

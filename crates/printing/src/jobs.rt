@@ -5,6 +5,7 @@ use characters::put_word;
 use fields::trouble::Trouble;
 use job::Job;
 use reduction::reduce;
+use steps::Figure;
 use text::runs::put_run;
 ghost use Prim.Native.Nat.{_≤_};
 ghost use lib.ListN.{length};
@@ -27,31 +28,31 @@ fn put_refusal(out: &mut [u8], at: usize, number: u32, place: usize) -> usize
     put_word(out, d, b"\n")
 }
 
-// The runs of a job without trouble.
-pub fn put_runs(s: &[u8], job: Job, out: &mut [u8]) -> usize
+// The runs of a job without trouble, by a figure.
+pub fn put_runs(figure: Figure, s: &[u8], job: Job, out: &mut [u8]) -> usize
     requires { ⌜ ClearJob (now s) job ⌝ }
     requires { ⌜ 27088 ≤ length (now out) ⌝ }
-    ensures { λ r. ⌜ Wrote (now (out .entry)) 0 (runsText (now (s .entry)) (job .runs)) (now (out .exit)) r ⌝ }
+    ensures { λ r. ⌜ Wrote (now (out .entry)) 0 (runsText figure (now (s .entry)) (job .runs)) (now (out .exit)) r ⌝ }
 {
     let runs = job.runs;
     let mut next: usize = 0;
     let mut k: usize = 0;
     while k < runs {
-        next = put_run(out, next, reduce(s, job, k));
+        next = put_run(out, next, reduce(s, job, figure, k));
         k += 1;
     }
     next
 }
 
-// All that is printed of a file.
-pub fn put_job(s: &[u8], out: &mut [u8]) -> usize
+// All that is printed of a file, by a figure.
+pub fn put_job(figure: Figure, s: &[u8], out: &mut [u8]) -> usize
     requires { ⌜ 27088 ≤ length (now out) ⌝ }
-    ensures { λ r. ⌜ Wrote (now (out .entry)) 0 (jobText (now (s .entry))) (now (out .exit)) r ⌝ }
+    ensures { λ r. ⌜ Wrote (now (out .entry)) 0 (jobText figure (now (s .entry))) (now (out .exit)) r ⌝ }
 {
     let read = job::read(s);
     let trouble = read.trouble;
     if let Trouble::At(number, place) = trouble {
         return put_refusal(out, 0, number, place);
     }
-    put_runs(s, read, out)
+    put_runs(figure, s, read, out)
 }

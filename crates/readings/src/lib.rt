@@ -3,6 +3,7 @@
 // Relies on nothing below it.
 
 pub mod certificates;
+pub mod figures;
 pub mod headers;
 pub mod layouts;
 pub mod points;

@@ -10,6 +10,7 @@ use Rattle.job.specs.Troubles.{jobTrouble}
 use Rattle.job.specs.Reading.{ClearJob}
 use Rattle.job.proofs.ClearJobs.{clear-run, clear-certificate, certificates-within}
 use Rattle.job.proofs.ReadJobs.{count-of-certificates}
+use Rattle.steps.specs.declared.Figure.{Figure}
 use Rattle.findings.specs.Listing.{mostFindings, listed}
 use Rattle.findings.proofs.Most.{at-most-for}
 use Rattle.reduction.specs.Reducing.{ReducibleFrom, worked, reduction, chosenIn, reducedRun}
@@ -22,6 +23,6 @@ workable s j ok k inside =
       reducible = record { run = clear-run s (ok .clear) k inside; certificates = record { each = clear-certificate s (ok .clear) } };
     })
 
-pub found-few : (s : List ℕ) → jobTrouble s ≡ Clear → (k : ℕ) → k < runCountOf s → reducedRun s k .findings .count ≤ mostFindings
+pub found-few : (fig : Figure) (s : List ℕ) → jobTrouble s ≡ Clear → (k : ℕ) → k < runCountOf s → reducedRun fig s k .findings .count ≤ mostFindings
 unfolding reducedRun reduction worked chosenIn listed
-found-few s clear k inside = at-most-for (versionOf s) (runOf s k) (chosenIn s k) (clear-run s clear k inside)
+found-few fig s clear k inside = at-most-for (versionOf s) fig (runOf s k) (chosenIn s k) (clear-run s clear k inside)

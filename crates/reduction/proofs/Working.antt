@@ -19,6 +19,7 @@ use Rattle.choosing.specs.Choosing.{chosenFor}
 use Rattle.factors.specs.Factor.{factorOf, coefficientOf, diametersOf}
 use Rattle.factors.specs.InRange.{ChosenOk}
 use Rattle.factors.proofs.Values.{chosen-in-range, factor-range, coefficient-range, diameters-range}
+use Rattle.steps.specs.declared.Figure.{Figure}
 use Rattle.findings.specs.declared.Finding.{Finding}
 use Rattle.findings.specs.declared.Findings.{Findings}
 use Rattle.findings.specs.Listing.{mostFindings, noFinding, findings, accepted, listed, linesFor, findingsFor}
@@ -47,6 +48,6 @@ pub listed-count : (fs : List Finding) → take (listed fs .count) (listed fs .l
 unfolding listed
 listed-count fs = filled-front mostFindings noFinding fs
 
-pub is-reduction : (v : Version) (f : ℕ → Certificate) (n : ℕ) (r : Run) {ch : Chosen} {l : Lines} {found : Findings} {stands : Bool} {written : Sheet} → ch ≡ chosenFor f n (r .header) → l ≡ linesFor v r ch → found ≡ listed (findings v r ch l) → stands ≡ accepted (take (found .count) (found .list)) → written ≡ sheet l → _≡_ {A = Reduced} (record { number = r .header .number; accepted = stands; sheet = written; findings = found }) (reduction v f n r)
+pub is-reduction : (v : Version) (fig : Figure) (f : ℕ → Certificate) (n : ℕ) (r : Run) {ch : Chosen} {l : Lines} {found : Findings} {stands : Bool} {written : Sheet} → ch ≡ chosenFor f n (r .header) → l ≡ linesFor v r ch → found ≡ listed (findings v fig r ch l) → stands ≡ accepted (take (found .count) (found .list)) → written ≡ sheet l → _≡_ {A = Reduced} (record { number = r .header .number; accepted = stands; sheet = written; findings = found }) (reduction v fig f n r)
 unfolding reduction worked findingsFor
-is-reduction v f n r {ch} ec el ef ea ew = rw (ew, ea, ef, listed-count, el, ec)
+is-reduction v fig f n r {ch} ec el ef ea ew = rw (ew, ea, ef, listed-count, el, ec)

@@ -1,5 +1,5 @@
--- A run reduced: from its record, the certificates chosen for it and the job's version to its lines and its findings. Certificates
--- are a function of an index, a run and a version are values; a job's file is one source of them.
+-- A run reduced: from its record, the certificates chosen for it, the job's version and a figure to its lines and its findings.
+-- Certificates are a function of an index, a run, a version and a figure are values; a job's file is one source of the first three.
 use Prim.Native.Nat.{ℕ, zero, suc, _≤_, _<_}
 use mathlib.Core.Bool.{cond}
 use mathlib.Core.List.{List}
@@ -13,6 +13,7 @@ use Rattle.lines.specs.Sheet.{sheet}
 use Rattle.choosing.specs.declared.Chosen.{Chosen}
 use Rattle.choosing.specs.Choosing.{chosenFor}
 use Rattle.factors.specs.InRange.{CertificatesOk}
+use Rattle.steps.specs.declared.Figure.{Figure}
 use Rattle.findings.specs.Listing.{accepted, linesFor, findingsFor, listed}
 use Rattle.heads.specs.Values.{certificatePlace, certificateOf}
 use Rattle.job.specs.declared.Job.{Job}
@@ -25,19 +26,19 @@ use Rattle.reduction.specs.declared.Which.the-variants.{Index, NoRun}
 
 -- From values
 
--- a run worked with the certificates chosen for it, in a job of that version
-unfoldable pub worked : Version → Run → Chosen → Reduced
-worked v r ch =
+-- a run worked with the certificates chosen for it, in a job of that version, and judged by that figure
+unfoldable pub worked : Version → Figure → Run → Chosen → Reduced
+worked v fig r ch =
     record {
       number = r .header .number;
-      accepted = accepted (findingsFor v r ch);
+      accepted = accepted (findingsFor v fig r ch);
       sheet = sheet (linesFor v r ch);
-      findings = listed (findingsFor v r ch);
+      findings = listed (findingsFor v fig r ch);
     }
 
--- A run reduced with the first n certificates, in a job of that version
-unfoldable pub reduction : Version → (ℕ → Certificate) → ℕ → Run → Reduced
-reduction v f n r = worked v r (chosenFor f n (r .header))
+-- A run reduced with the first n certificates, in a job of that version, by that figure
+unfoldable pub reduction : Version → Figure → (ℕ → Certificate) → ℕ → Run → Reduced
+reduction v fig f n r = worked v fig r (chosenFor f n (r .header))
 
 -- the run and the certificates are in range
 pub record Reducible (f : ℕ → Certificate) (n : ℕ) (r : Run) : Type 0 where
@@ -65,6 +66,6 @@ pub record ClearRun (s : List ℕ) (j : Job) (k : ℕ) : Type 0 where
 unfoldable pub chosenIn : List ℕ → ℕ → Chosen
 chosenIn s k = chosenFor (certificateOf s) (certificateCountOf s) (runOf s k .header)
 
--- Run k of a job
-unfoldable pub reducedRun : List ℕ → ℕ → Reduced
-reducedRun s k = reduction (versionOf s) (certificateOf s) (certificateCountOf s) (runOf s k)
+-- Run k of a job, by that figure
+unfoldable pub reducedRun : Figure → List ℕ → ℕ → Reduced
+reducedRun fig s k = reduction (versionOf s) fig (certificateOf s) (certificateCountOf s) (runOf s k)

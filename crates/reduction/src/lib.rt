@@ -8,6 +8,7 @@ use lines::Sheet;
 use lines::sheets;
 use readings::headers::Version;
 use records::Run;
+use steps::Figure;
 ghost use mathlib.Core.Path.{_≡_};
 ghost use Rattle.opening.specs.Opening.{versionOf};
 ghost use Rattle.heads.specs.Values.{certificateOf};
@@ -29,17 +30,17 @@ pub enum Which {
     NoRun,
 }
 
-// A run, wherever it comes from, reduced with the first `count` certificates of a file and by its version.
-pub fn work(s: &[u8], v: Version, count: usize, run: Run) -> Reduced
+// A run, wherever it comes from, reduced with the first `count` certificates of a file, by its version and by a figure.
+pub fn work(s: &[u8], v: Version, figure: Figure, count: usize, run: Run) -> Reduced
     requires { ⌜ (v ≡ versionOf (now s)) × ReducibleFrom (now s) count run ⌝ }
-    ensures { λ r. ⌜ r ≡ reduction v (certificateOf (now (s .entry))) count run ⌝ }
+    ensures { λ r. ⌜ r ≡ reduction v figure (certificateOf (now (s .entry))) count run ⌝ }
 {
     let chosen = certs::choose_all(s, v, count, run.header);
     let y = factors::factor_of(v, chosen);
     let cp = factors::coefficient_of(chosen);
     let nozzle = factors::diameters_of(chosen);
     let l = sheets::lines(run, y, cp, nozzle);
-    let found = findings::find(v, run, chosen, l);
+    let found = findings::find(v, figure, run, chosen, l);
     Reduced {
         number: run.header.number,
         accepted: findings::accepted(found),
@@ -48,14 +49,14 @@ pub fn work(s: &[u8], v: Version, count: usize, run: Run) -> Reduced
     }
 }
 
-// Run k of a job without trouble, counted from 0 in file order.
-pub fn reduce(s: &[u8], job: Job, k: usize) -> Reduced
+// Run k of a job without trouble, counted from 0 in file order, by a figure.
+pub fn reduce(s: &[u8], job: Job, figure: Figure, k: usize) -> Reduced
     requires { ⌜ ClearRun (now s) job k ⌝ }
-    ensures { λ r. ⌜ r ≡ reducedRun (now (s .entry)) k ⌝ }
+    ensures { λ r. ⌜ r ≡ reducedRun figure (now (s .entry)) k ⌝ }
 {
     let v = opening::version(s);
     let starts = job.starts;
-    work(s, v, job.certificates, parts::run(s, v, starts[k]))
+    work(s, v, figure, job.certificates, parts::run(s, v, starts[k]))
 }
 
 // The run of that number in a job without trouble. Numbers rise, so there is at most one.

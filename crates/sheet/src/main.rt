@@ -8,7 +8,7 @@ fn main() {
     let mut file = io::large_buffer();
     let length = io::read_full(STDIN_FILENO, &mut file);
     let mut out = [0u8; printing::jobs::ROOM];
-    let end = printing::jobs::put_job(&file[..length], &mut out);
+    let end = printing::jobs::put_job(steps::none(), &file[..length], &mut out);
     if end <= printing::jobs::ROOM {
         io::write_all(STDOUT_FILENO, &out[..end]);
     }

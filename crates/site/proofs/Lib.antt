@@ -1,3 +1,2 @@
 -- The laws of the site, which the layers above cite.
-pub mod Products
 pub mod Words

@@ -1,6 +1,5 @@
 -- Rules 7 to 9 of docs/RULES.md: the sampling site and its number of points.
-use Prim.Native.Nat.{ℕ, _+_, _*_, _/_, _^_, _≤_}
-use mathlib.Core.Path.{_≡_}
+use Prim.Native.Nat.{ℕ, _+_, _*_, _/_}
 use mathlib.Core.Bool.{Bool, cond, _&&_}
 use lib.Dec.{leb, ltb, eqb}
 use Rattle.readings.specs.Ranges.{roundShape}
@@ -10,29 +9,9 @@ use Rattle.grounds.specs.declared.comparison.Way.the-variants.{Below, Differs}
 use Rattle.grounds.specs.Comparing.{compare}
 use Rattle.grounds.specs.declared.Ground.{Ground}
 use Rattle.grounds.specs.declared.Ground.the-variants.{Compared, Either}
-use Rattle.site.specs.declared.Length.{Length}
-
--- a site is round, or rectangular
-abbrev pub isRound : Site → Bool
-isRound s = eqb (s .shape) roundShape
-
--- a length as a fraction, 0.1 in
-abbrev pub fraction : ℕ → ℕ → Length
-fraction over under = record { over = over; under = under }
-
--- the diameter, over / under: of a rectangle 2LW/(L+W)
-unfoldable pub diameter : Site → Length
-diameter s = cond (isRound s) (fraction (s .first) 1) (fraction (2 * (s .first * s .second)) (s .first + s .second))
-
--- half of it: of a rectangle LW/(L+W)
-unfoldable pub halfDiameter : Site → Length
-halfDiameter s = cond (isRound s) (fraction (s .first) 2) (fraction (s .first * s .second) (s .first + s .second))
-
--- r is the length l, whose parts are no larger than two sides can make them
-pub record IsLength (l r : Length) : Type 0 where
-  pub is : r ≡ l
-  pub over : r .over ≤ 2 ^ 35
-  pub under : r .under ≤ 2 ^ 17
+use Rattle.diameters.specs.Diameters.{isRound, diameter, halfDiameter}
+use Rattle.steps.specs.declared.Figure.{Figure}
+use Rattle.steps.specs.Steps.{isFigure, asked}
 
 -- the least diameter, 0.1 in
 abbrev pub leastDiameter : ℕ
@@ -94,15 +73,19 @@ leastDisturbedRound = 24
 abbrev pub leastDisturbedRectangular : ℕ
 leastDisturbedRectangular = 25
 
--- the house's way to the least number of points at a site
-unfoldable pub minimumPoints : Site → ℕ
-minimumPoints s =
-    cond (undisturbed s) (cond (wide s) leastWide (cond (isRound s) leastRound leastRectangular))
-    (cond (isRound s) leastDisturbedRound leastDisturbedRectangular)
-
 -- the allowed number of points from n on: multiples of 4 round, the grids rectangular
 unfoldable pub nextAllowed : ℕ → ℕ → ℕ
 nextAllowed shape n = cond (eqb shape roundShape) ((n + 3) / 4 * 4) (nextGrid n)
+
+-- short of that: what the figure asks for, raised to the next allowed number, or without a figure the house's
+unfoldable pub minimumDisturbed : Figure → Site → ℕ
+minimumDisturbed f s =
+    cond (isFigure f) (nextAllowed (s .shape) (asked f s)) (cond (isRound s) leastDisturbedRound leastDisturbedRectangular)
+
+-- the least number of points at a site
+unfoldable pub minimumPoints : Figure → Site → ℕ
+minimumPoints f s =
+    cond (undisturbed s) (cond (wide s) leastWide (cond (isRound s) leastRound leastRectangular)) (minimumDisturbed f s)
 
 -- 9: wrong number of points, below the least or not allowed for the shape
 abbrev pub wrongPoints : ℕ → ℕ → ℕ → Ground

@@ -1,14 +1,17 @@
-// Rules 7 to 9: the sampling site, and the least number of points that the house asks for there.
+// Rules 7 to 9: the sampling site, and the least number of points there, by a figure or by the house.
 // A rectangle's diameter is a fraction and is never divided out: both sides of a comparison are cross-multiplied.
 
+use diameters::diameter;
+use diameters::half_diameter;
 use grids::GridPoints;
 use grounds::Ground;
 use grounds::comparison::Comparison;
 use grounds::comparison::Way;
 use readings::runs::Shape;
 use records::Site;
+use steps::Figure;
 ghost use mathlib.Core.Path.{_≡_};
-ghost use Rattle.site.specs.Site.{diameter, halfDiameter, narrow, disturbed, undisturbed, wide, minimumPoints, nextAllowed, wrongPoints, IsLength};
+ghost use Rattle.site.specs.Site.{narrow, disturbed, undisturbed, wide, minimumDisturbed, minimumPoints, nextAllowed, wrongPoints};
 
 // The least diameter, and the one above which more points are needed, 0.1 in.
 const LEAST_DIAMETER: u64 = 120;
@@ -23,7 +26,8 @@ const FAR_LAST: u64 = 8;
 
 const FAR_NEXT: u64 = 2;
 
-// The least numbers of points: at an undisturbed site above 24 in, otherwise by shape, and short of that by the house rule.
+// The least numbers of points: at an undisturbed site above 24 in, otherwise by shape, and short of that by the house rule where
+// there is no figure.
 pub struct LeastPoints;
 
 impl LeastPoints {
@@ -36,48 +40,6 @@ impl LeastPoints {
     pub const DISTURBED_ROUND: u64 = 24;
 
     pub const DISTURBED_RECTANGULAR: u64 = 25;
-}
-
-// A length as a fraction, over / under, 0.1 in.
-pub struct Length {
-    pub over: u64,
-    pub under: u64,
-}
-
-// The stack's diameter: of a rectangle 2LW/(L+W).
-fn diameter(site: Site) -> Length
-    ensures { λ r. ⌜ IsLength (diameter site) r ⌝ }
-{
-    let first = site.first as u64;
-    let second = site.second as u64;
-    if site.shape == Shape::ROUND {
-        return Length {
-            over: first,
-            under: 1,
-        };
-    }
-    Length {
-        over: 2 * (first * second),
-        under: first + second,
-    }
-}
-
-// Half of it.
-fn half_diameter(site: Site) -> Length
-    ensures { λ r. ⌜ IsLength (halfDiameter site) r ⌝ }
-{
-    let first = site.first as u64;
-    let second = site.second as u64;
-    if site.shape == Shape::ROUND {
-        return Length {
-            over: first,
-            under: 2,
-        };
-    }
-    Length {
-        over: first * second,
-        under: first + second,
-    }
 }
 
 // Rule 7: the diameter is below 12 in.
@@ -131,28 +93,6 @@ fn wide(site: Site) -> bool
     WIDE_DIAMETER * d.under < d.over
 }
 
-// The least number of points at a site.
-pub fn minimum_points(site: Site) -> u64
-    ensures { λ r. ⌜ r ≡ minimumPoints site ⌝ }
-{
-    let round = site.shape == Shape::ROUND;
-    if !undisturbed(site) {
-        return if round {
-            LeastPoints::DISTURBED_ROUND
-        } else {
-            LeastPoints::DISTURBED_RECTANGULAR
-        };
-    }
-    if wide(site) {
-        return LeastPoints::WIDE;
-    }
-    if round {
-        LeastPoints::ROUND
-    } else {
-        LeastPoints::RECTANGULAR
-    }
-}
-
 // The allowed number of points from n on: of a round stack the next multiple of 4, of a rectangular one the next grid.
 pub fn next_allowed(shape: u8, n: u8) -> u64
     ensures { λ r. ⌜ r ≡ nextAllowed shape n ⌝ }
@@ -161,6 +101,40 @@ pub fn next_allowed(shape: u8, n: u8) -> u64
         return (n as u64 + 3) / 4 * 4;
     }
     GridPoints::next(n as u64)
+}
+
+// The least number of points at a site that is not undisturbed: what the figure asks for, raised to an allowed number, or the
+// house's own where there is no figure.
+fn minimum_disturbed(figure: Figure, site: Site) -> u64
+    ensures { λ r. ⌜ r ≡ minimumDisturbed figure site ⌝ }
+{
+    let last = figure.last;
+    let first = last[0];
+    if first.round != 0 {
+        return next_allowed(site.shape, steps::asked(figure, site));
+    }
+    if site.shape == Shape::ROUND {
+        LeastPoints::DISTURBED_ROUND
+    } else {
+        LeastPoints::DISTURBED_RECTANGULAR
+    }
+}
+
+// The least number of points at a site.
+pub fn minimum_points(figure: Figure, site: Site) -> u64
+    ensures { λ r. ⌜ r ≡ minimumPoints figure site ⌝ }
+{
+    if !undisturbed(site) {
+        return minimum_disturbed(figure, site);
+    }
+    if wide(site) {
+        return LeastPoints::WIDE;
+    }
+    if site.shape == Shape::ROUND {
+        LeastPoints::ROUND
+    } else {
+        LeastPoints::RECTANGULAR
+    }
 }
 
 // Rule 9: fewer points than the least number, or a number that is not allowed for the shape.

@@ -21,6 +21,7 @@ use Rattle.lines.specs.Sheet.{lineCount}
 use Rattle.choosing.specs.declared.Chosen.{Chosen}
 use Rattle.findings.specs.declared.Finding.{Finding}
 use Rattle.classes.specs.Classes.{placesOf, placeAt}
+use Rattle.steps.specs.declared.Figure.{Figure}
 use Rattle.findings.specs.Listing.{noFinding, mostFindings, listed, findingsFor, linesFor, Breaks}
 use Rattle.findings.proofs.Members.{listed-exactly}
 use Rattle.findings.proofs.Most.{at-most-for}
@@ -91,25 +92,25 @@ unfolding placeAt
 place-few rule i h = either-most (oneOf (10 ∷ 11 ∷ 17 ∷ []) rule) _ _ greatestPointCount (omega arith) (omega arith)
 
 -- what a run breaks, and where, are numbers of two digits
-module _ (v : Version) (r : Run) (ch : Chosen) (ok : RunOk r) where
-  breaks-at : (i : ℕ) → i < length (findingsFor v r ch) → Breaks r ch (linesFor v r ch) (getD (findingsFor v r ch) i noFinding .rule) (getD (findingsFor v r ch) i noFinding .place)
+module _ (v : Version) (fig : Figure) (r : Run) (ch : Chosen) (ok : RunOk r) where
+  breaks-at : (i : ℕ) → i < length (findingsFor v fig r ch) → Breaks fig r ch (linesFor v r ch) (getD (findingsFor v fig r ch) i noFinding .rule) (getD (findingsFor v fig r ch) i noFinding .place)
   unfolding findingsFor
-  breaks-at i inside = listed-exactly v r ch (linesFor v r ch) _ _ .0 (record { index = i; inside = inside; same = (refl, refl) })
+  breaks-at i inside = listed-exactly v fig r ch (linesFor v r ch) _ _ .0 (record { index = i; inside = inside; same = (refl, refl) })
 
-  finding-at-short : (i : ℕ) → i < length (findingsFor v r ch) → length (findingText (getD (findingsFor v r ch) i noFinding)) ≤ 12
+  finding-at-short : (i : ℕ) → i < length (findingsFor v fig r ch) → length (findingText (getD (findingsFor v fig r ch) i noFinding)) ≤ 12
   finding-at-short i inside =
       let b = breaks-at i inside in
-      let few = places-few r ok (getD (findingsFor v r ch) i noFinding .rule) in
-      let place = place-few (getD (findingsFor v r ch) i noFinding .rule) (b .index) (omega (arith, few, b .inside)) in
+      let few = places-few r ok (getD (findingsFor v fig r ch) i noFinding .rule) in
+      let place = place-few (getD (findingsFor v fig r ch) i noFinding .rule) (b .index) (omega (arith, few, b .inside)) in
       finding-short _ (omega (arith, b .last)) (omega (arith, place, b .there))
 
-  found-short : length (findingsText (listed (findingsFor v r ch) .list) (listed (findingsFor v r ch) .count)) ≤ 1176
+  found-short : length (findingsText (listed (findingsFor v fig r ch) .list) (listed (findingsFor v fig r ch) .count)) ≤ 1176
   unfolding findingsText listed filledTo
   found-short =
-      let fs = findingsFor v r ch in
+      let fs = findingsFor v fig r ch in
       let behind = replicate (mostFindings - length fs) noFinding in
       let all = joined-short (λ i. findingText (getD (fs ++ behind) i noFinding)) (length fs) 12 (λ i inside. rw (List·getD-append fs behind noFinding i inside) (finding-at-short i inside)) in
-      omega (arith, all, at-most-for v r ch ok)
+      omega (arith, all, at-most-for v fig r ch ok)
 
 -- A run
 
@@ -117,16 +118,16 @@ standing-short : (accepted : Bool) → length (standing accepted) ≤ 10
 unfolding standing
 standing-short accepted = either-short accepted _ _ 10 (omega arith) (omega arith)
 
-pub run-short : (v : Version) (r : Run) (ch : Chosen) → RunOk r → length (runText (worked v r ch)) ≤ 1693
+pub run-short : (v : Version) (fig : Figure) (r : Run) (ch : Chosen) → RunOk r → length (runText (worked v fig r ch)) ≤ 1693
 unfolding runText worked
-run-short v r ch ok =
+run-short v fig r ch ok =
     let number = decimal (r .header .number) in
-    let stands = standing (worked v r ch .accepted) in
-    let sheet = sheetText (worked v r ch .sheet) in
-    let found = findingsText (listed (findingsFor v r ch) .list) (listed (findingsFor v r ch) .count) in
+    let stands = standing (worked v fig r ch .accepted) in
+    let sheet = sheetText (worked v fig r ch .sheet) in
+    let found = findingsText (listed (findingsFor v fig r ch) .list) (listed (findingsFor v fig r ch) .count) in
     let one = length-append runWord number in
     let two = length-append (runWord ++ number) stands in
     let three = length-append (runWord ++ number ++ stands) sheet in
     let four = length-append (runWord ++ number ++ stands ++ sheet) found in
     let small = within-greatest leastRunNumber greatestRunNumber _ (ok .header .number) in
-    omega (arith, one, two, three, four, decimal-digits 2 (r .header .number) (omega (arith, small)), standing-short (worked v r ch .accepted), sheet-short (worked v r ch .sheet), found-short v r ch ok)
+    omega (arith, one, two, three, four, decimal-digits 2 (r .header .number) (omega (arith, small)), standing-short (worked v fig r ch .accepted), sheet-short (worked v fig r ch .sheet), found-short v fig r ch ok)

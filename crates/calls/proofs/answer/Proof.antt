@@ -1,8 +1,8 @@
 -- `answer` is what the public call of the header's number promises: the call takes the header's numbers, and a buffer that it is not lent stays as it was.
 use mathlib.Core.Path.{refl}
-use native.Mathlib.Omega.{arith}
 use borrow.Author.Needs.{needs}
-use Rattle.calls.specs.Requests.{byReduce, byRunCount, byRunNumber, byRoundLayout, byRectLayout, bySheetText, byNone}
+use Rattle.calls.specs.Requests.{byReduce, byRunCount, byRunNumber, byRoundLayout, byRectLayout, bySheetText, byReduceByFigure, bySheetTextByFigure, byNone}
+use Rattle.calls.proofs.NoCall.{no-call}
 use Rattle.calls.proofs.answer.Statement.{statement}
 use Rattle.calls.proofs.answer.Tie as tie
 
@@ -35,6 +35,12 @@ leverbonnet-rect-layout-requires c κs = tt
 
 leverbonnet-sheet-text-requires : tie.Need-leverbonnet-sheet-text-requires
 leverbonnet-sheet-text-requires c κs = tt
+
+leverbonnet-reduce-by-figure-requires : tie.Need-leverbonnet-reduce-by-figure-requires
+leverbonnet-reduce-by-figure-requires c κs = tt
+
+leverbonnet-sheet-text-by-figure-requires : tie.Need-leverbonnet-sheet-text-by-figure-requires
+leverbonnet-sheet-text-by-figure-requires c κs = tt
 
 same-length : tie.Need-same-length
 same-length c = search needs
@@ -90,8 +96,29 @@ returns-6 c =
     let called = c .before .before in
     bySheetText (called .before .before .match .keys6) (called .leverbonnet-sheet-text .ensures) refl
 
+same-length-6 : tie.Need-same-length-6
+same-length-6 c = search needs
+
+same-length-7 : tie.Need-same-length-7
+same-length-7 c = search needs
+
 returns-7 : tie.Need-returns-7
-returns-7 c = byNone (λ least most. omega arith) refl refl refl
+returns-7 c =
+    let called = c .before .before .before .before in
+    let chosen = called .before .before .before in
+    let first = chosen .before .before .before .before .before .before in
+    byReduceByFigure (chosen .match .keys7) (rw (first .u16-at .ensures) at (called .leverbonnet-reduce-by-figure .ensures))
+
+same-length-8 : tie.Need-same-length-8
+same-length-8 c = search needs
+
+returns-8 : tie.Need-returns-8
+returns-8 c =
+    let called = c .before .before in
+    bySheetTextByFigure (called .before .before .match .keys8) (called .leverbonnet-sheet-text-by-figure .ensures) refl
+
+returns-9 : tie.Need-returns-9
+returns-9 c = byNone (no-call 8 _ (c .match .rest)) refl refl refl
 
 pub answer-spec : {M : Type 1} → statement M
 answer-spec =
@@ -107,6 +134,8 @@ answer-spec =
     leverbonnet-round-layout-requires
     leverbonnet-rect-layout-requires
     leverbonnet-sheet-text-requires
+    leverbonnet-reduce-by-figure-requires
+    leverbonnet-sheet-text-by-figure-requires
     same-length
     same-length-2
     returns
@@ -118,4 +147,9 @@ answer-spec =
     returns-5
     same-length-5
     returns-6
-    returns-7)
+    same-length-6
+    same-length-7
+    returns-7
+    same-length-8
+    returns-8
+    returns-9)

@@ -61,23 +61,23 @@ places-requires c κs = search needs
 loop2-holds : tie.Need-loop2-holds Inv-loop2 μ-loop2 Inv-loop μ-loop
 loop2-holds c = (omega arith, entered-first _ _ _ _ (c .before .before .loop .inv .1))
 
-cast-t22 : tie.Need-cast-t22 Inv-loop2 μ-loop2 Inv-loop μ-loop
-cast-t22 c = omega arith
+cast-t23 : tie.Need-cast-t23 Inv-loop2 μ-loop2 Inv-loop μ-loop
+cast-t23 c = omega arith
 
-mul-t23 : tie.Need-mul-t23 Inv-loop2 μ-loop2 Inv-loop μ-loop
-mul-t23 c = omega arith
+mul-t24 : tie.Need-mul-t24 Inv-loop2 μ-loop2 Inv-loop μ-loop
+mul-t24 c = omega arith
 
-cast-t27 : tie.Need-cast-t27 Inv-loop2 μ-loop2 Inv-loop μ-loop
-cast-t27 c = omega arith
+cast-t28 : tie.Need-cast-t28 Inv-loop2 μ-loop2 Inv-loop μ-loop
+cast-t28 c = omega arith
 
-mul-t28 : tie.Need-mul-t28 Inv-loop2 μ-loop2 Inv-loop μ-loop
-mul-t28 c = omega arith
+mul-t29 : tie.Need-mul-t29 Inv-loop2 μ-loop2 Inv-loop μ-loop
+mul-t29 c = omega arith
 
-cast-t32 : tie.Need-cast-t32 Inv-loop2 μ-loop2 Inv-loop μ-loop
-cast-t32 c = omega arith
+cast-t33 : tie.Need-cast-t33 Inv-loop2 μ-loop2 Inv-loop μ-loop
+cast-t33 c = omega arith
 
-mul-t33 : tie.Need-mul-t33 Inv-loop2 μ-loop2 Inv-loop μ-loop
-mul-t33 c = omega arith
+mul-t34 : tie.Need-mul-t34 Inv-loop2 μ-loop2 Inv-loop μ-loop
+mul-t34 c = omega arith
 
 -- where the loops begin: what stands beside is made; and a turn of the inner loop
 abbrev Begun : Type 0
@@ -104,7 +104,7 @@ abbrev isBroken : Begun → ℕ → ℕ → Bool
 isBroken b rule i = broken (groundOf (partOf (start b .args .run) rule i) (b .beside-of .result) rule)
 
 fits : (b : Begun) → length (findingsTo (start b .args .v) (isBroken b) (placesOf (start b .args .run .header .counts)) lastRule) ≤ mostFindings
-fits b = all-fit-beside _ _ _ _ (start b .pre) (b .beside-of .ensures)
+fits b = all-fit-beside _ _ _ _ _ (start b .pre) (b .beside-of .ensures)
 
 rule-in : (t : Turn) → done t < lastRule
 rule-in t = omega (arith, t .before .before .before .loop-test .taken)
@@ -112,14 +112,14 @@ rule-in t = omega (arith, t .before .before .before .loop-test .taken)
 place-in : (t : Turn) → passed t < placesOf (start (begun t) .args .run .header .counts) (done t + 1)
 place-in t = rw (t .before .before .places .ensures) at (t .loop2-test .taken)
 
-array-copy-out-t26 : tie.Need-array-copy-out-t26 Inv-loop2 μ-loop2 Inv-loop μ-loop
-array-copy-out-t26 c = point-in _ _ (start (begun (c .before)) .pre) (c .match .keys1) (place-in (c .before))
+array-copy-out-t27 : tie.Need-array-copy-out-t27 Inv-loop2 μ-loop2 Inv-loop μ-loop
+array-copy-out-t27 c = point-in _ _ (start (begun (c .before)) .pre) (c .match .keys1) (place-in (c .before))
 
-array-copy-out-t31 : tie.Need-array-copy-out-t31 Inv-loop2 μ-loop2 Inv-loop μ-loop
-array-copy-out-t31 c = segment-in _ _ (start (begun (c .before)) .pre) (c .match .keys2) (place-in (c .before))
+array-copy-out-t32 : tie.Need-array-copy-out-t32 Inv-loop2 μ-loop2 Inv-loop μ-loop
+array-copy-out-t32 c = segment-in _ _ (start (begun (c .before)) .pre) (c .match .keys2) (place-in (c .before))
 
-array-copy-out-t36 : tie.Need-array-copy-out-t36 Inv-loop2 μ-loop2 Inv-loop μ-loop
-array-copy-out-t36 c = weighing-in _ _ (start (begun (c .before)) .pre) (c .match .keys3) (place-in (c .before))
+array-copy-out-t37 : tie.Need-array-copy-out-t37 Inv-loop2 μ-loop2 Inv-loop μ-loop
+array-copy-out-t37 c = weighing-in _ _ (start (begun (c .before)) .pre) (c .match .keys3) (place-in (c .before))
 
 -- the part that the rule looks at
 part-is : (c : tie.At-match-came Inv-loop2 μ-loop2 Inv-loop μ-loop) → c .match .part ≡ partOf (start (begun (c .before)) .args .run) (done (c .before) + 1) (passed (c .before))
@@ -133,7 +133,7 @@ part-is c =
 ground-of-requires : tie.Need-ground-of-requires Inv-loop2 μ-loop2 Inv-loop μ-loop
 ground-of-requires c κs =
     let b = begun (c .before) in
-    judgeable _ _ (start b .pre) _ (b .beside-of .ensures)
+    judgeable _ _ (start b .pre) _ _ (b .beside-of .ensures)
 
 broken-requires : tie.Need-broken-requires Inv-loop2 μ-loop2 Inv-loop μ-loop
 broken-requires c κs = search needs
@@ -152,8 +152,8 @@ has-room c =
     entered-room _ _ _ _ _ (fits (begun turn)) (rule-in turn) (place-in turn) (test-is (c .before .before)) (c .before .if1 .taken)
     (turn .before .loop2 .inv .1)
 
-mul-t40 : tie.Need-mul-t40 Inv-loop2 μ-loop2 Inv-loop μ-loop
-mul-t40 c = omega (arith, has-room c)
+mul-t41 : tie.Need-mul-t41 Inv-loop2 μ-loop2 Inv-loop μ-loop
+mul-t41 c = omega (arith, has-room c)
 
 element-set-from-found : tie.Need-element-set-from-found Inv-loop2 μ-loop2 Inv-loop μ-loop
 element-set-from-found c = has-room c
@@ -209,19 +209,19 @@ find-spec =
     add-rule
     places-requires
     loop2-holds
-    cast-t22
-    mul-t23
-    array-copy-out-t26
-    cast-t27
-    mul-t28
-    array-copy-out-t31
-    cast-t32
-    mul-t33
-    array-copy-out-t36
+    cast-t23
+    mul-t24
+    array-copy-out-t27
+    cast-t28
+    mul-t29
+    array-copy-out-t32
+    cast-t33
+    mul-t34
+    array-copy-out-t37
     ground-of-requires
     broken-requires
     finding-at-requires
-    mul-t40
+    mul-t41
     element-set-from-found
     add-count
     add-i

@@ -5,6 +5,9 @@ use Rattle.output.specs.Answers.{packed}
 use Rattle.leverbonnet.proofs.leverbonnet_sheet_text.Statement.{statement}
 use Rattle.leverbonnet.proofs.leverbonnet_sheet_text.Tie as tie
 
+none-requires : tie.Need-none-requires
+none-requires c κs = search needs
+
 sheet-text-requires : tie.Need-sheet-text-requires
 sheet-text-requires c κs = search needs
 
@@ -16,9 +19,10 @@ same-length c = search needs
 
 returns : tie.Need-returns
 returns c =
-    let printed = c .before .before .before .sheet-text .ensures in
+    let handed = c .before .before .before in
+    let printed = rw (handed .before .before .none .ensures) at (handed .sheet-text .ensures) in
     record { answer = c .packed .ensures ∙ ap packed (printed .answer); out = printed .out }
 
 pub leverbonnet-sheet-text-spec : {M : Type 1} → statement M
 leverbonnet-sheet-text-spec =
-    tie.close (tie.spec sheet-text-requires packed-requires same-length returns)
+    tie.close (tie.spec none-requires sheet-text-requires packed-requires same-length returns)

@@ -3,6 +3,7 @@ use borrow.Author.Needs.{needs}
 use Rattle.findings.specs.Listing.{mostFindings, listed, findings, Worked}
 use Rattle.readings.specs.declared.headers.Version.{Version}
 use Rattle.records.specs.declared.Run.{Run}
+use Rattle.steps.specs.declared.Figure.{Figure}
 use Rattle.choosing.specs.declared.Chosen.{Chosen}
 use Rattle.lines.specs.declared.Lines.{Lines}
 use Rattle.findings.proofs.Most.{at-most}
@@ -38,12 +39,12 @@ find-requires c κs =
       is = c .lines .ensures .0;
     }
 
-found-few : (v : Version) {r : Run} (ch : Chosen) {l : Lines} → Worked r l → listed (findings v r ch l) .count ≤ mostFindings
+found-few : (v : Version) (fig : Figure) {r : Run} (ch : Chosen) {l : Lines} → Worked r l → listed (findings v fig r ch l) .count ≤ mostFindings
 unfolding listed
-found-few v ch w = at-most v _ ch _ w
+found-few v fig ch w = at-most v fig _ ch _ w
 
 accepted-requires : tie.Need-accepted-requires
-accepted-requires c κs = rw (c .find .ensures) (found-few _ _ (find-requires (c .before) (tt {0})))
+accepted-requires c κs = rw (c .find .ensures) (found-few _ _ _ (find-requires (c .before) (tt {0})))
 
 sheet-requires : tie.Need-sheet-requires
 sheet-requires c κs = search needs
@@ -52,7 +53,7 @@ returns : tie.Need-returns
 returns c =
     let worked = c .before .before .before in
     let v = worked .before .before .before .before .before .before .args .v in
-    is-reduction v _ _ _ (worked .before .before .before .before .choose-all .ensures)
+    is-reduction v _ _ _ _ (worked .before .before .before .before .choose-all .ensures)
     (lines-worked v _ _ (worked .before .before .before .factor-of .ensures) (worked .before .before .coefficient-of .ensures) (worked .before .diameters-of .ensures) (worked .lines .ensures .0))
     (c .before .before .find .ensures)
     (c .before .accepted .ensures)

@@ -1,77 +1,34 @@
--- Each way through the call is the outcome of its case.
-use borrow.Author.Needs.{needs}
+-- The header's trouble comes first; without one, the call by a figure without steps.
 use native.Mathlib.Omega.{arith}
-use mathlib.Core.Path.{_≡_, refl, _∙_, sym}
-use Rattle.job.specs.Reading.{refusedJob, readJob}
-use Rattle.job.proofs.WholeFile.{header-refuses}
-use Rattle.reduction.specs.Reducing.{ClearRun}
-use Rattle.job.proofs.ReadJobs.{read-clear, count-of-runs, place-fits}
-use Rattle.reduction.proofs.ClearJobs.{found-few}
-use Rattle.reduction.proofs.Naming.{found-inside}
-use Rattle.handing.proofs.Handing.{came-refused, came-same}
-use Rattle.runs.proofs.Outcomes.{refused-by-reader, no-run, one-run}
+use mathlib.Core.Path.{sym, _∙_}
+use borrow.Author.Needs.{needs}
+use Rattle.handing.proofs.Handing.{came-refused}
+use Rattle.runs.proofs.Outcomes.{refused-by-header, header-fits}
 use Rattle.runs.proofs.reduce.Statement.{statement}
 use Rattle.runs.proofs.reduce.Tie as tie
 
 trouble-requires : tie.Need-trouble-requires
 trouble-requires c κs = search needs
 
-enum-known-header : tie.Need-enum-known-header
-enum-known-header c = search needs
+enum-known-trouble : tie.Need-enum-known-trouble
+enum-known-trouble c = search needs
 
--- where the header is in trouble, so is the job that is read
-by-header : (c : tie.After-known-told) → refusedJob (c .before .before .before .trouble .result) ≡ readJob (c .before .before .before .before .before .before .before .args .job .now)
-by-header c = header-refuses _ refl (c .before .before .before .trouble .ensures) (c .before .header .given .1)
-
-cast-t14 : tie.Need-cast-t14
-cast-t14 c = omega (arith, place-fits _ (by-header c) (c .before .header .given .1))
+cast-t8 : tie.Need-cast-t8
+cast-t8 c = omega (arith, header-fits _ (c .before .before .before .trouble .ensures) (c .before .trouble2 .given .1))
 
 returns : tie.Need-returns
-returns c = came-refused _ _ _ _ (refused-by-reader _ _ _ _ (by-header c) (c .before .header .given .1))
+returns c = came-refused _ _ _ _ (refused-by-header _ _ _ _ _ (c .before .before .before .trouble .ensures) (c .before .trouble2 .given .1))
 
 enum-told : tie.Need-enum-told
 enum-told c = search needs
 
-read-records-requires : tie.Need-read-records-requires
-read-records-requires c κs = sym (c .before .before .trouble .ensures) ∙ c .enum-told .given .1
+none-requires : tie.Need-none-requires
+none-requires c κs = search needs
 
-enum-known-trouble : tie.Need-enum-known-trouble
-enum-known-trouble c = search needs
-
-cast-t15 : tie.Need-cast-t15
-cast-t15 c = omega (arith, place-fits _ (c .before .before .before .read-records .ensures) (c .before .trouble2 .given .1))
-
-returns-2 : tie.Need-returns-2
-returns-2 c = came-refused _ _ _ _ (refused-by-reader _ _ _ _ (c .before .before .before .read-records .ensures) (c .before .trouble2 .given .1))
-
-enum-told-2 : tie.Need-enum-told-2
-enum-told-2 c = search needs
-
-find-run-requires : tie.Need-find-run-requires
-find-run-requires c κs = read-clear _ (c .before .before .read-records .ensures) (c .enum-told2 .given .1)
-
-enum-known-which : tie.Need-enum-known-which
-enum-known-which c = search needs
-
-enum-told-3 : tie.Need-enum-told-3
-enum-told-3 c = search needs
-
-returns-3 : tie.Need-returns-3
-returns-3 c = came-refused 10 0 _ _ (no-run _ _ _ _ _ (read-clear _ (c .before .before .before .before .before .read-records .ensures) (c .before .before .before .enum-told2 .given .1)) (c .before .before .find-run .ensures) (c .enum-told3 .given .1))
-
-found : (c : tie.After-known-told3) → ClearRun (c .before .before .before .before .before .before .before .before .before .before .before .before .before .args .job .now) (c .before .before .before .before .before .before .read-records .result) (c .before .which .given .0 .0)
-found c =
-    let job = read-clear _ (c .before .before .before .before .before .before .read-records .ensures) (c .before .before .before .before .enum-told2 .given .1) in
-    let named = sym (c .before .before .before .find-run .ensures) ∙ c .before .which .given .1 in
-    record { job = job; inside = rw (count-of-runs _ _ job) at (found-inside _ _ _ named) }
-
-reduce-requires : tie.Need-reduce-requires
-reduce-requires c κs = found c
-
-hand-over-requires : tie.Need-hand-over-requires
-hand-over-requires c κs =
-    let r = found (c .before .before .before) in
-    rw (c .before .before .reduce .ensures) (found-few _ (r .job .clear) _ (r .inside))
+reduce-by-requires : tie.Need-reduce-by-requires
+reduce-by-requires c κs =
+    let good = c .before .before .before in
+    sym (good .before .before .trouble .ensures) ∙ good .enum-told .given .1
 
 same-length : tie.Need-same-length
 same-length c = search needs
@@ -79,32 +36,22 @@ same-length c = search needs
 same-length-2 : tie.Need-same-length-2
 same-length-2 c = search needs
 
-returns-4 : tie.Need-returns-4
-returns-4 c =
-    let at = c .before .before .before .before .before .before .before .before in
-    let whole = one-run _ _ _ _ _ (found at .job) (at .before .before .before .find-run .ensures) (at .before .which .given .1) (c .before .before .before .before .before .before .before .reduce .ensures) in
-    came-same whole (c .before .before .before .before .hand-over .ensures)
+returns-2 : tie.Need-returns-2
+returns-2 c =
+    let worked = c .before .before .before .before in
+    rw (worked .before .before .before .none .ensures) at (worked .reduce-by .ensures)
 
 pub reduce-spec : {M : Type 1} → statement M
 reduce-spec =
     tie.close
     (tie.spec
     trouble-requires
-    enum-known-header
-    cast-t14
+    enum-known-trouble
+    cast-t8
     returns
     enum-told
-    read-records-requires
-    enum-known-trouble
-    cast-t15
-    returns-2
-    enum-told-2
-    find-run-requires
-    enum-known-which
-    enum-told-3
-    returns-3
-    reduce-requires
-    hand-over-requires
+    none-requires
+    reduce-by-requires
     same-length
     same-length-2
-    returns-4)
+    returns-2)

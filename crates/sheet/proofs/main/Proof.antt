@@ -17,6 +17,9 @@ slice-aggregate-read-full c = search needs
 read-full-requires : tie.Need-read-full-requires
 read-full-requires c κs = search needs
 
+none-requires : tie.Need-none-requires
+none-requires c κs = search needs
+
 array-share-prefix-file : tie.Need-array-share-prefix-file
 array-share-prefix-file c = search needs
 
@@ -36,7 +39,7 @@ slice-aggregate-write-all : tie.Need-slice-aggregate-write-all
 slice-aggregate-write-all c =
     let printed = c .before .before .before .put-job in
     let room = printed .ensures .kept ∙ length-replicate {A = ℕ} 27088 0 in
-    sym (length-take-le (printed .result) (printed .last .1 .0) (omega (arith, room, c .before .if1 .taken)))
+    sym (length-take-le (printed .result) (printed .last .1 .1 .0) (omega (arith, room, c .before .if1 .taken)))
 
 write-all-requires : tie.Need-write-all-requires
 write-all-requires c κs = search needs
@@ -54,6 +57,7 @@ main-spec =
     large-buffer-requires
     slice-aggregate-read-full
     read-full-requires
+    none-requires
     array-share-prefix-file
     slice-aggregate-put-job
     slice-aggregate-put-job-2

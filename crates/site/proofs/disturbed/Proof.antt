@@ -1,7 +1,7 @@
 -- `disturbed` is its definition; distances fit 16 bits and the bottom of a length is bounded, so their product fits.
 use native.Mathlib.Omega.{arith}
 use borrow.Author.Needs.{needs}
-use Rattle.site.proofs.Products.{product-fits}
+use Rattle.diameters.proofs.Products.{product-fits}
 use Rattle.site.proofs.disturbed.Statement.{statement}
 use Rattle.site.proofs.disturbed.Tie as tie
 

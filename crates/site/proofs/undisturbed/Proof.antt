@@ -3,7 +3,7 @@ use native.Mathlib.Omega.{arith}
 use borrow.Author.Tests.{le-leb, lt-leb}
 use borrow.Author.Needs.{needs}
 use Rattle.site.specs.Site.{undisturbed}
-use Rattle.site.proofs.Products.{product-fits}
+use Rattle.diameters.proofs.Products.{product-fits}
 use Rattle.site.proofs.undisturbed.Statement.{statement}
 use Rattle.site.proofs.undisturbed.Tie as tie
 

@@ -18,14 +18,14 @@ put-runs-requires : tie.Need-put-runs-requires
 put-runs-requires c κs = search needs
 
 -- the text of the job stands beside the output
-text : (c : tie.After-way2) → Beside (jobText (c .before .before .before .before .before .args .s .now)) (c .before .put-runs .last .1 .1 .0) (c .before .put-runs .result)
+text : (c : tie.After-way2) → Beside (jobText (c .before .before .before .before .before .args .figure) (c .before .before .before .before .before .args .s .now)) (c .before .put-runs .last .1 .1 .1 .0) (c .before .put-runs .result)
 text c =
     let start = c .before .before .before .before .before in
     let size = length-replicate {A = ℕ} 27088 0 in
-    beside (rw (text-of-runs _ _ (start .pre)) at (c .before .put-runs .ensures)) (omega (arith, size, text-most (start .args .s .now)))
+    beside (rw (text-of-runs _ _ _ (start .pre)) at (c .before .put-runs .ensures)) (omega (arith, size, text-most (start .args .figure) (start .args .s .now)))
 
 returns : tie.Need-returns
-returns c = refused-short _ _ (text (c .before) .whole) (omega (arith, c .if1 .taken))
+returns c = refused-short _ _ _ (text (c .before) .whole) (omega (arith, c .if1 .taken))
 
 array-share-prefix-way : tie.Need-array-share-prefix-way
 array-share-prefix-way c = text (c .before .before) .inside
@@ -40,8 +40,8 @@ put-word-requires c κs =
     let beside = text (c .before .before .before) in
     rw (beside .front) (record { fits = omega (arith, beside .whole, c .before .before .if1 .left) })
 
-cast-t14 : tie.Need-cast-t14
-cast-t14 c = omega (arith, end-fits _ (text (c .before .before .before .before .before .before) .whole))
+cast-t15 : tie.Need-cast-t15
+cast-t15 c = omega (arith, end-fits _ _ (text (c .before .before .before .before .before .before) .whole))
 
 same-length : tie.Need-same-length
 same-length c = search needs
@@ -50,7 +50,7 @@ returns-2 : tie.Need-returns-2
 returns-2 c =
     let beside = text (c .before .before .before .before .before .before) in
     let copied = rw (beside .front) at (c .before .before .put-word .ensures) in
-    rw (beside .whole ∙ sym (written-end copied)) (handed-over _ _ (omega (arith, beside .whole, c .before .before .before .before .before .if1 .left)) copied)
+    rw (beside .whole ∙ sym (written-end copied)) (handed-over _ _ _ (omega (arith, beside .whole, c .before .before .before .before .before .if1 .left)) copied)
 
 pub put-by-way-spec : {M : Type 1} → statement M
 put-by-way-spec =
@@ -62,6 +62,6 @@ put-by-way-spec =
     array-share-prefix-way
     slice-aggregate-put-word
     put-word-requires
-    cast-t14
+    cast-t15
     same-length
     returns-2)

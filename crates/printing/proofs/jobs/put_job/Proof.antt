@@ -5,6 +5,7 @@ use Prim.Native.Nat.{ℕ}
 use native.Mathlib.Omega.{arith}
 use mathlib.Core.List.{List}
 use Rattle.fields.specs.declared.trouble.Trouble.the-variants.{At}
+use Rattle.steps.specs.declared.Figure.{Figure}
 use Rattle.job.specs.declared.Job.{Job}
 use Rattle.job.specs.Reading.{readJob}
 use Rattle.job.proofs.ReadJobs.{read-refused, read-clear}
@@ -15,9 +16,9 @@ use Rattle.printing.proofs.Printing.{text-of-runs}
 use Rattle.printing.proofs.jobs.put_job.Statement.{statement}
 use Rattle.printing.proofs.jobs.put_job.Tie as tie
 
-refused : (s : List ℕ) {old out : List ℕ} {j : Job} {n p next : ℕ} → j ≡ readJob s → j .trouble ≡ At n p → Wrote old 0 (refusalText n p) out next → Wrote old 0 (jobText s) out next
+refused : (fig : Figure) (s : List ℕ) {old out : List ℕ} {j : Job} {n p next : ℕ} → j ≡ readJob s → j .trouble ≡ At n p → Wrote old 0 (refusalText n p) out next → Wrote old 0 (jobText fig s) out next
 unfolding jobText
-refused s e t w = rw (read-refused s e t) w
+refused fig s e t w = rw (read-refused s e t) w
 
 read-requires : tie.Need-read-requires
 read-requires c κs = search needs
@@ -32,7 +33,7 @@ same-length : tie.Need-same-length
 same-length c = search needs
 
 returns : tie.Need-returns
-returns c = refused _ (c .before .before .before .before .before .before .before .read .ensures) (c .before .before .before .before .before .trouble .given .1) (c .before .before .put-refusal .ensures)
+returns c = refused _ _ (c .before .before .before .before .before .before .before .read .ensures) (c .before .before .before .before .before .trouble .given .1) (c .before .before .put-refusal .ensures)
 
 enum-told : tie.Need-enum-told
 enum-told c = search needs
@@ -44,7 +45,7 @@ same-length-2 : tie.Need-same-length-2
 same-length-2 c = search needs
 
 returns-2 : tie.Need-returns-2
-returns-2 c = rw (text-of-runs _ _ (read-clear _ (c .before .before .before .before .before .before .read .ensures) (c .before .before .before .before .enum-told .given .1))) at (c .before .before .put-runs .ensures)
+returns-2 c = rw (text-of-runs _ _ _ (read-clear _ (c .before .before .before .before .before .before .read .ensures) (c .before .before .before .before .enum-told .given .1))) at (c .before .before .put-runs .ensures)
 
 pub put-job-spec : {M : Type 1} → statement M
 put-job-spec =

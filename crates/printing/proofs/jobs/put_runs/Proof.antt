@@ -14,16 +14,16 @@ use Rattle.printing.proofs.jobs.put_runs.Statement.{statement}
 use Rattle.printing.proofs.jobs.put_runs.Tie as tie
 
 abbrev Inv-loop : tie.InvT-loop
-Inv-loop s job out₀ runs next₀ k₀ out next k = (k ≤ runs) × Wrote out₀ 0 (joined (λ i. runText (reducedRun s i)) k) out next
+Inv-loop figure s job out₀ runs next₀ k₀ out next k = (k ≤ runs) × Wrote out₀ 0 (joined (λ i. runText (reducedRun figure s i)) k) out next
 
 abbrev μ-loop : tie.MeasureT-loop
-μ-loop s job out₀ runs next₀ k₀ out next k = runs - k
+μ-loop figure s job out₀ runs next₀ k₀ out next k = runs - k
 
 -- room for all runs
-room : (c : tie.Start Inv-loop μ-loop) → Room (c .args .out .now) 0 (joined (λ i. runText (reducedRun (c .args .s .now) i)) (c .args .job .runs))
+room : (c : tie.Start Inv-loop μ-loop) → Room (c .args .out .now) 0 (joined (λ i. runText (reducedRun (c .args .figure) (c .args .s .now) i)) (c .args .job .runs))
 unfolding runsText
 room c =
-    let short = runs-short _ (c .pre .0 .clear) in
+    let short = runs-short (c .args .figure) _ (c .pre .0 .clear) in
     rw (count-of-runs _ _ (c .pre .0)) (record { fits = omega (arith, short, c .pre .1) })
 
 loop-holds : tie.Need-loop-holds Inv-loop μ-loop
@@ -40,7 +40,7 @@ reduce-requires c κs = clear-run (c .before)
 put-run-requires : tie.Need-put-run-requires Inv-loop μ-loop
 put-run-requires c κs =
     let r = clear-run (c .before .before) in
-    rw (c .reduce .ensures) (found-few _ (r .job .clear) _ (r .inside), joined-room _ (c .before .before .before .loop .inv .1) (room (c .before .before .before .before .before .before)) (c .before .before .loop-test .taken))
+    rw (c .reduce .ensures) (found-few _ _ (r .job .clear) _ (r .inside), joined-room _ (c .before .before .before .loop .inv .1) (room (c .before .before .before .before .before .before)) (c .before .before .loop-test .taken))
 
 add-k : tie.Need-add-k Inv-loop μ-loop
 add-k c = omega (arith, c .before .before .before .before .before .loop-test .taken, few-runs _ _ (c .before .before .before .before .before .before .before .before .before .pre .0))

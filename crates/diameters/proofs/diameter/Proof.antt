@@ -3,10 +3,10 @@ use Prim.Native.Nat.{_^_, _≤_, _<_}
 use native.Mathlib.Omega.{arith}
 use borrow.Author.Tests.{eq-eqb, ne-eqb}
 use borrow.Author.Needs.{needs}
-use Rattle.site.specs.Site.{diameter}
-use Rattle.site.proofs.Products.{product-le, product-fits}
-use Rattle.site.proofs.diameter.Statement.{statement}
-use Rattle.site.proofs.diameter.Tie as tie
+use Rattle.diameters.specs.Diameters.{diameter}
+use Rattle.diameters.proofs.Products.{product-le, product-fits}
+use Rattle.diameters.proofs.diameter.Statement.{statement}
+use Rattle.diameters.proofs.diameter.Tie as tie
 
 cast-first : tie.Need-cast-first
 cast-first c = search needs
@@ -22,13 +22,13 @@ mul-t5 : tie.Need-mul-t5
 mul-t5 c =
     let a : c .before .before .before .before .args .site .first < 2 ^ 16 = omega arith in
     let b : c .before .before .before .before .args .site .second ≤ 2 ^ 17 = omega arith in
-    product-fits _ _ a b
+    product-fits _ _ a (omega (arith, b))
 
 mul-t6 : tie.Need-mul-t6
 mul-t6 c =
     let a : c .before .before .before .before .args .site .first < 2 ^ 16 = omega arith in
     let b : c .before .before .before .before .args .site .second ≤ 2 ^ 17 = omega arith in
-    omega (arith, product-le _ _ a b)
+    omega (arith, product-le (2 ^ 17) _ _ a b)
 
 add-t7 : tie.Need-add-t7
 add-t7 c = search needs
@@ -40,7 +40,7 @@ returns-2 c =
     let b : c .before .before .before .before .args .site .second ≤ 2 ^ 17 = omega arith in
     record {
       is = rw (ne-eqb _ _ (c .if1 .left));
-      over = omega (arith, product-le _ _ a b);
+      over = omega (arith, product-le (2 ^ 17) _ _ a b);
       under = omega arith;
     }
 

@@ -1,0 +1,2 @@
+-- The law of the calls' numbers.
+pub mod NoCall

@@ -1,0 +1,2 @@
+-- The laws of lengths, which the layers above cite.
+pub mod Products

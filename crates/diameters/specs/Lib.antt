@@ -1,0 +1,2 @@
+-- The diameter of a stack.
+pub mod Diameters

@@ -1,0 +1,2 @@
+-- The figure file.
+pub mod Figures
