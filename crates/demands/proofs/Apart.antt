@@ -13,6 +13,7 @@ use Rattle.readings.proofs.Ranges.{within-greatest}
 use Rattle.fields.specs.declared.trouble.Trouble.{Trouble}
 use Rattle.fields.specs.declared.trouble.Trouble.the-variants.{Clear, At}
 use Rattle.findings.specs.Listing.{mostFindings}
+use Rattle.steps.specs.declared.Figure.{Figure}
 use Rattle.opening.specs.Opening.{runCountOf}
 use Rattle.job.specs.Places.{runOf}
 use Rattle.job.specs.Troubles.{jobTrouble}
@@ -33,12 +34,14 @@ use Rattle.distances.proofs.RectangleLaws.{rectangle-ok, grid-ok}
 use Rattle.traverse.proofs.Theorems.{round-length, rectangle-length}
 use Rattle.writing.specs.Bytes.{sheetSize, findingSize}
 use Rattle.printing.specs.Jobs.{jobText}
-use Rattle.printing.specs.Printing.{unprinted, printed, ifRoomy, unlessTrouble, printing, printingAnswer}
+use Rattle.printing.specs.Printing.{unprinted, printed, ifRoomy, unlessTrouble, printing, unprintedIfBad, printingAnswer}
 use Rattle.printing.proofs.Lengths.{text-most}
 use Rattle.layouts.specs.Outcomes.{distanceSize, ifRoom, lentOutcome, layoutOutcome, roundOutcome, rectangleOutcome, layoutAnswer}
 use Rattle.handing.specs.Handing.{refused, reduced, handed, success, answerOf}
 use Rattle.counting.specs.Counting.{countOf, countAnswer, numberAt, numberAnswer}
-use Rattle.runs.specs.Outcomes.{ofRun, ofTrouble, outcome}
+use Rattle.runs.specs.Outcomes.{ofRun, ofTrouble, outcome, unlessBadFigure}
+use Rattle.demands.specs.FigureFile.{Lent, supplied, figureIn}
+use Rattle.demands.proofs.FigureFile.{bad-lent}
 use Rattle.demands.specs.Demands.{Given, toReduce, toRunCount, toRunNumber, toSheetText, toRoundLayout, toRectLayout}
 use Rattle.output.specs.declared.Answer.{Answer}
 use Rattle.output.specs.declared.Answer.the-variants.{Done, Refused}
@@ -64,24 +67,28 @@ packed-apart (Refused n p) (Refused m q) (some, small) (more, low) e =
 reader-told : (s : List ℕ) {n p : ℕ} → jobTrouble s ≡ At n p → Tellable (Refused n p)
 reader-told s e = (numbers s e .0, omega (arith, places s e))
 
+-- a figure's 14
+figure-told : (l : Lent) {n p : ℕ} → supplied l .trouble ≡ At n p → Tellable (Refused n p)
+figure-told l e = let told = bad-lent l e in (omega (arith, told .number), told .near)
+
 success-told : (count : ℕ) (accepted : Bool) → count ≤ mostFindings → success count accepted < 2 ^ 32
 unfolding success
 success-told count true few = omega arith
 success-told count false few = omega arith
 
-reduce-told : (s : List ℕ) (run lines findings : ℕ) → Tellable (answerOf (outcome s run lines findings))
+reduce-told : (fig : Figure) (s : List ℕ) (run lines findings : ℕ) → Tellable (answerOf (outcome fig s run lines findings))
 unfolding outcome handed answerOf
-reduce-told s run lines findings = by-trouble (jobTrouble s) refl
+reduce-told fig s run lines findings = by-trouble (jobTrouble s) refl
   where
     by-room : (r : Reduced) (short : Bool) → r .findings .count ≤ mostFindings → Tellable (answerOf (cond short (refused 9 0) (reduced r)))
     by-room r true few = (lit≤ tt, lit< tt)
     by-room r false few = success-told (r .findings .count) (r .accepted) few
 
-    by-number : jobTrouble s ≡ Clear → (which : Which) → runNamed (runOf s) run (runCountOf s) ≡ which → Tellable (answerOf (ofRun s which lines findings))
+    by-number : jobTrouble s ≡ Clear → (which : Which) → runNamed (runOf s) run (runCountOf s) ≡ which → Tellable (answerOf (ofRun fig s which lines findings))
     by-number clear NoRun e = (lit≤ tt, lit< tt)
-    by-number clear (Index k) e = by-room (reducedRun s k) (ltb lines sheetSize || ltb findings (findingSize * reducedRun s k .findings .count)) (found-few s clear k (found-inside (runOf s) run (runCountOf s) e))
+    by-number clear (Index k) e = by-room (reducedRun fig s k) (ltb lines sheetSize || ltb findings (findingSize * reducedRun fig s k .findings .count)) (found-few fig s clear k (found-inside (runOf s) run (runCountOf s) e))
 
-    by-trouble : (t : Trouble) → jobTrouble s ≡ t → Tellable (answerOf (ofTrouble t s run lines findings))
+    by-trouble : (t : Trouble) → jobTrouble s ≡ t → Tellable (answerOf (ofTrouble t fig s run lines findings))
     by-trouble (At n p) e = reader-told s e
     by-trouble Clear e = by-number e (runNamed (runOf s) run (runCountOf s)) refl
 
@@ -105,17 +112,17 @@ number-told s index = go (jobTrouble s) refl
     go (At n p) e = reader-told s e
     go Clear e = inside e _ refl
 
-text-told : (s : List ℕ) (room : ℕ) → Tellable (printingAnswer (printing s room))
+text-told : (fig : Figure) (s : List ℕ) (room : ℕ) → Tellable (printingAnswer (printing fig s room))
 unfolding printing ifRoomy printingAnswer
-text-told s room = go (jobTrouble s) refl
+text-told fig s room = go (jobTrouble s) refl
   where
-    by-room : (short : Bool) → Tellable (printingAnswer (cond short (unprinted 9 0) (printed (jobText s))))
+    by-room : (short : Bool) → Tellable (printingAnswer (cond short (unprinted 9 0) (printed (jobText fig s))))
     by-room true = (lit≤ tt, lit< tt)
-    by-room false = omega (arith, text-most s)
+    by-room false = omega (arith, text-most fig s)
 
-    go : (t : Trouble) → jobTrouble s ≡ t → Tellable (printingAnswer (unlessTrouble t s room))
+    go : (t : Trouble) → jobTrouble s ≡ t → Tellable (printingAnswer (unlessTrouble t fig s room))
     go (At n p) e = reader-told s e
-    go Clear e = by-room (ltb room (length (jobText s)))
+    go Clear e = by-room (ltb room (length (jobText fig s)))
 
 -- a layout of no more distances than there may be
 layout-told : (fits : Bool) (ds : List ℕ) (room : ℕ) → (fits ≡ true → length ds ≤ mostDistances) → Tellable (layoutAnswer (layoutOutcome fits ds room))
@@ -141,11 +148,22 @@ rectangle-told points first second room =
     let cells = grid-ok points (rectangle-ok points first second fits .points) in
     omega (arith, rectangle-length points first second fits, mul-le-mul (cells .rowsFew) (cells .columnsFew), cells .cells))
 
+-- by what is given for a figure
+reduce-by-told : (l : Lent) (s : List ℕ) (run lines findings : ℕ) (t : Trouble) → supplied l .trouble ≡ t → Tellable (answerOf (unlessBadFigure t (outcome (figureIn l) s run lines findings)))
+unfolding answerOf
+reduce-by-told l s run lines findings (At n p) e = figure-told l e
+reduce-by-told l s run lines findings Clear e = reduce-told (figureIn l) s run lines findings
+
+text-by-told : (l : Lent) (s : List ℕ) (room : ℕ) (t : Trouble) → supplied l .trouble ≡ t → Tellable (printingAnswer (unprintedIfBad t (printing (figureIn l) s room)))
+unfolding printingAnswer
+text-by-told l s room (At n p) e = figure-told l e
+text-by-told l s room Clear e = text-told (figureIn l) s room
+
 tellable : {a : Answer} → Given a → Tellable a
-tellable (toReduce s run lines findings) = reduce-told s run lines findings
+tellable (toReduce l s run lines findings) = reduce-by-told l s run lines findings (supplied l .trouble) refl
 tellable (toRunCount s) = count-told s
 tellable (toRunNumber s index) = number-told s index
-tellable (toSheetText s room) = text-told s room
+tellable (toSheetText l s room) = text-by-told l s room (supplied l .trouble) refl
 tellable (toRoundLayout points diameter nozzle room) = round-told points diameter nozzle room
 tellable (toRectLayout points first second room) = rectangle-told points first second room
 

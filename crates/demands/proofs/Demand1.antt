@@ -21,8 +21,10 @@ use Rattle.reduction.proofs.Naming.{found-inside, named, none-named}
 use Rattle.output.specs.Answers.{packed}
 use Rattle.writing.specs.Bytes.{sheetSize, findingSize}
 use Rattle.handing.specs.Handing.{refused, reduced, handed, answerOf, linesAfter, findingsAfter}
-use Rattle.runs.specs.Outcomes.{ofTrouble, outcome}
-use Rattle.demands.specs.Table.{CallRefused, ofFile, row9, row10}
+use Rattle.runs.specs.Outcomes.{ofTrouble, outcome, unlessBadFigure, outcomeBy}
+use Rattle.demands.specs.Table.{CallRefused, row14, ofFile, row9, row10}
+use Rattle.demands.specs.FigureFile.{Lent, supplied, figureIn, GoodLent}
+use Rattle.demands.proofs.FigureFile.{lent-clear, clear-lent, bad-file, bad-lent}
 use Rattle.demands.specs.Demands.{Call, Promised, RowApplies, RefusedWith, ReducesRun, CameTo, byRow, toRun, Demand1}
 use Rattle.demands.proofs.GoodParts.{clear-job, good-job}
 use Rattle.demands.proofs.ByTable.{row-told, told-row}
@@ -35,17 +37,28 @@ unfolding handed
 short-handed r lines findings (inl short) = rw (lt-ltb lines sheetSize short)
 short-handed r lines findings (inr short) = rw (lt-ltb findings (findingSize * r .findings .count) short, or-true (ltb lines sheetSize) true refl)
 
+-- with a good figure, or none, its steps decide
+by-good-lent : (l : Lent) → GoodLent l → (s : List ℕ) (run lines findings : ℕ) → outcomeBy (supplied l) s run lines findings ≡ outcome (figureIn l) s run lines findings
+by-good-lent l good s run lines findings =
+    ap (λ t. unlessBadFigure t (outcome (figureIn l) s run lines findings)) (lent-clear l good)
+
 -- where a row applies, the outcome is that refusal
-row-outcome : (s : List ℕ) (run lines findings : ℕ) {n p : ℕ} → CallRefused s run lines findings n p → outcome s run lines findings ≡ refused n p
+row-outcome : (l : Lent) (s : List ℕ) (run lines findings : ℕ) {n p : ℕ} → CallRefused l s run lines findings n p → outcomeBy (supplied l) s run lines findings ≡ refused n p
 unfolding outcome
-row-outcome s run lines findings (ofFile row) = ap (λ t. ofTrouble t s run lines findings) (row-told s row)
-row-outcome s run lines findings (row10 good none) = outcome-of-none s run (good-job s good) lines findings none
-row-outcome s run lines findings (row9 good k inside number short) =
-    outcome-of-run s run (good-job s good) k lines findings inside number ∙ short-handed (reducedRun s k) lines findings short
+row-outcome l s run lines findings (row14 f is bad) =
+    ap (λ t. unlessBadFigure t (outcome (figureIn l) s run lines findings)) (bad-file l f is bad)
+row-outcome l s run lines findings (ofFile figure row) =
+    by-good-lent l figure s run lines findings ∙ ap (λ t. ofTrouble t (figureIn l) s run lines findings) (row-told s row)
+row-outcome l s run lines findings (row10 figure good none) =
+    by-good-lent l figure s run lines findings ∙ outcome-of-none s run (good-job s good) (figureIn l) lines findings none
+row-outcome l s run lines findings (row9 figure good k inside number short) =
+    by-good-lent l figure s run lines findings
+    ∙ outcome-of-run s run (good-job s good) (figureIn l) k lines findings inside number
+    ∙ short-handed (reducedRun (figureIn l) s k) lines findings short
 
 module _ (c : Call) (kept : Promised c) where
   -- a refusal as outcome is answered, and changes no byte
-  refused-with : {n p : ℕ} → outcome (c .job) (c .run) (length (c .linesIn)) (length (c .findingsIn)) ≡ refused n p → RefusedWith c n p
+  refused-with : {n p : ℕ} → outcomeBy (supplied (c .figure)) (c .job) (c .run) (length (c .linesIn)) (length (c .findingsIn)) ≡ refused n p → RefusedWith c n p
   unfolding answerOf linesAfter findingsAfter
   refused-with e =
       record {
@@ -55,19 +68,23 @@ module _ (c : Call) (kept : Promised c) where
       }
 
   row-answered : (n p : ℕ) → RowApplies c n p → RefusedWith c n p
-  row-answered n p row = refused-with (row-outcome (c .job) (c .run) (length (c .linesIn)) (length (c .findingsIn)) row)
+  row-answered n p row = refused-with (row-outcome (c .figure) (c .job) (c .run) (length (c .linesIn)) (length (c .findingsIn)) row)
 
   by-row : (n p : ℕ) → RowApplies c n p → CameTo c
   by-row n p row = byRow n p row (row-answered n p row)
 
   -- a run is handed over where both outputs suffice
-  reducing : jobTrouble (c .job) ≡ Clear → (k : ℕ) → k < runCountOf (c .job) → runOf (c .job) k .header .number ≡ c .run → sheetSize ≤ length (c .linesIn) → findingSize * reducedRun (c .job) k .findings .count ≤ length (c .findingsIn) → ReducesRun c k
+  reducing : GoodLent (c .figure) → jobTrouble (c .job) ≡ Clear → (k : ℕ) → k < runCountOf (c .job) → runOf (c .job) k .header .number ≡ c .run → sheetSize ≤ length (c .linesIn) → findingSize * reducedRun (figureIn (c .figure)) (c .job) k .findings .count ≤ length (c .findingsIn) → ReducesRun c k
   unfolding handed answerOf linesAfter findingsAfter
-  reducing clear k inside number linesRoom findingsRoom =
-      let r = reducedRun (c .job) k in
+  reducing figure clear k inside number linesRoom findingsRoom =
+      let r = reducedRun (figureIn (c .figure)) (c .job) k in
       let suffices : handed r (length (c .linesIn)) (length (c .findingsIn)) ≡ reduced r = rw (le-ltb (length (c .linesIn)) sheetSize linesRoom, le-ltb (length (c .findingsIn)) (findingSize * r .findings .count) findingsRoom) in
-      let is = outcome-of-run (c .job) (c .run) clear k (length (c .linesIn)) (length (c .findingsIn)) inside number ∙ suffices in
+      let is =
+      by-good-lent (c .figure) figure (c .job) (c .run) (length (c .linesIn)) (length (c .findingsIn))
+      ∙ outcome-of-run (c .job) (c .run) clear (figureIn (c .figure)) k (length (c .linesIn)) (length (c .findingsIn)) inside number
+      ∙ suffices in
       record {
+        figure = figure;
         good = clear-job (c .job) clear;
         run = only-run (c .job) (c .run) clear k inside number;
         linesRoom = linesRoom;
@@ -77,22 +94,28 @@ module _ (c : Call) (kept : Promised c) where
         findings = kept .findings ∙ ap (λ o. findingsAfter o (c .findingsIn)) is;
       }
 
-  by-room : jobTrouble (c .job) ≡ Clear → (k : ℕ) → k < runCountOf (c .job) → runOf (c .job) k .header .number ≡ c .run → (a b : Bool) → ltb (length (c .linesIn)) sheetSize ≡ a → ltb (length (c .findingsIn)) (findingSize * reducedRun (c .job) k .findings .count) ≡ b → CameTo c
-  by-room clear k inside number true b e f = by-row 9 0 (row9 (clear-job (c .job) clear) k inside number (inl (ltb-true _ _ e)))
-  by-room clear k inside number false true e f = by-row 9 0 (row9 (clear-job (c .job) clear) k inside number (inr (ltb-true _ _ f)))
-  by-room clear k inside number false false e f = toRun k (reducing clear k inside number (ltb-false _ _ e) (ltb-false _ _ f))
+  by-room : GoodLent (c .figure) → jobTrouble (c .job) ≡ Clear → (k : ℕ) → k < runCountOf (c .job) → runOf (c .job) k .header .number ≡ c .run → (a b : Bool) → ltb (length (c .linesIn)) sheetSize ≡ a → ltb (length (c .findingsIn)) (findingSize * reducedRun (figureIn (c .figure)) (c .job) k .findings .count) ≡ b → CameTo c
+  by-room figure clear k inside number true b e f = by-row 9 0 (row9 figure (clear-job (c .job) clear) k inside number (inl (ltb-true _ _ e)))
+  by-room figure clear k inside number false true e f = by-row 9 0 (row9 figure (clear-job (c .job) clear) k inside number (inr (ltb-true _ _ f)))
+  by-room figure clear k inside number false false e f = toRun k (reducing figure clear k inside number (ltb-false _ _ e) (ltb-false _ _ f))
 
-  by-number : jobTrouble (c .job) ≡ Clear → (which : Which) → runNamed (runOf (c .job)) (c .run) (runCountOf (c .job)) ≡ which → CameTo c
-  by-number clear NoRun e = by-row 10 0 (row10 (clear-job (c .job) clear) (none-named (runOf (c .job)) (c .run) (runCountOf (c .job)) e))
-  by-number clear (Index k) e =
-      by-room clear k (found-inside (runOf (c .job)) (c .run) (runCountOf (c .job)) e) (named (runOf (c .job)) (c .run) (runCountOf (c .job)) e) _ _ refl refl
+  by-number : GoodLent (c .figure) → jobTrouble (c .job) ≡ Clear → (which : Which) → runNamed (runOf (c .job)) (c .run) (runCountOf (c .job)) ≡ which → CameTo c
+  by-number figure clear NoRun e = by-row 10 0 (row10 figure (clear-job (c .job) clear) (none-named (runOf (c .job)) (c .run) (runCountOf (c .job)) e))
+  by-number figure clear (Index k) e =
+      by-room figure clear k (found-inside (runOf (c .job)) (c .run) (runCountOf (c .job)) e) (named (runOf (c .job)) (c .run) (runCountOf (c .job)) e) _ _ refl refl
 
-  by-trouble : (t : Trouble) → jobTrouble (c .job) ≡ t → CameTo c
-  by-trouble (At n p) e = by-row n p (ofFile (told-row (c .job) e))
-  by-trouble Clear e = by-number e (runNamed (runOf (c .job)) (c .run) (runCountOf (c .job))) refl
+  by-trouble : GoodLent (c .figure) → (t : Trouble) → jobTrouble (c .job) ≡ t → CameTo c
+  by-trouble figure (At n p) e = by-row n p (ofFile figure (told-row (c .job) e))
+  by-trouble figure Clear e = by-number figure e (runNamed (runOf (c .job)) (c .run) (runCountOf (c .job))) refl
+
+  by-figure : (t : Trouble) → supplied (c .figure) .trouble ≡ t → CameTo c
+  by-figure (At n p) e =
+      let told = bad-lent (c .figure) e in
+      by-row 14 p (row14 (told .bytes) (told .is) (told .bad))
+  by-figure Clear e = by-trouble (clear-lent (c .figure) e) (jobTrouble (c .job)) refl
 
   pub came-to : CameTo c
-  came-to = by-trouble (jobTrouble (c .job)) refl
+  came-to = by-figure (supplied (c .figure) .trouble) refl
 
   -- Every call is refused by a row of the table, or reduces a run; where a row applies, that is the answer; and no two answers are that number
   pub answered-by-table : Demand1 c

@@ -8,6 +8,7 @@ use native.Mathlib.Omega.{arith}
 use lib.ListN.{length, getD}
 use lib.Seq.{getD-take}
 use Rattle.arrays.proofs.Filled.{filled-front}
+use Rattle.steps.specs.declared.Figure.{Figure}
 use Rattle.findings.specs.declared.Finding.{Finding}
 use Rattle.findings.specs.Listing.{mostFindings, noFinding, accepted, listed, linesFor, findingsFor}
 use Rattle.findings.proofs.Accepting.{accepted-exactly}
@@ -23,19 +24,20 @@ use Rattle.output.proofs.Records.{record-at}
 use Rattle.writing.specs.Bytes.{findingSize, findingBytes, findingsBytes}
 use Rattle.writing.proofs.Sizes.{finding-length}
 use Rattle.handing.specs.Handing.{success}
+use Rattle.demands.specs.FigureFile.{figureIn}
 use Rattle.demands.specs.Demands.{Call, Promised, Succeeds, bytesOfFinding, FindingsOf, Demand3}
 use Rattle.demands.proofs.GoodParts.{good-job}
 use Rattle.demands.proofs.Succeeding.{Done, done}
 
 -- the list of run k's findings is what it is called
-findings-of : (s : List ℕ) (k : ℕ) → FindingsOf s k (findingsFor (versionOf s) (runOf s k) (chosenIn s k))
+findings-of : (fig : Figure) (s : List ℕ) (k : ℕ) → FindingsOf fig s k (findingsFor (versionOf s) fig (runOf s k) (chosenIn s k))
 unfolding findingsFor
-findings-of s k =
+findings-of fig s k =
     let v = versionOf s in
     let r = runOf s k in
     let ch = chosenIn s k in
     let l = linesFor v r ch in
-    record { sorted = in-order v r ch l; once = each-once v r ch l; exactly = listed-exactly v r ch l; class = class-at v r ch l }
+    record { sorted = in-order v fig r ch l; once = each-once v fig r ch l; exactly = listed-exactly v fig r ch l; class = class-at v fig r ch l }
 
 -- what stands at an index of a list stands there in the array that holds it
 held-at : (fs : List Finding) (i : ℕ) → i < length fs → getD (listed fs .list) i noFinding ≡ getD fs i noFinding
@@ -59,7 +61,7 @@ findings-by-rules c kept succeeds =
       index = k;
       run = d .reducing .run;
       list = list;
-      findings = findings-of (c .job) k;
+      findings = findings-of (figureIn (c .figure)) (c .job) k;
       accepted = accepted list;
       answer = d .reducing .answer;
       few = few;
@@ -75,10 +77,10 @@ findings-by-rules c kept succeeds =
     k = d .index
 
     list : List Finding
-    list = findingsFor (versionOf (c .job)) (runOf (c .job) k) (chosenIn (c .job) k)
+    list = findingsFor (versionOf (c .job)) (figureIn (c .figure)) (runOf (c .job) k) (chosenIn (c .job) k)
 
     few : length list ≤ mostFindings
-    few = at-most-for (versionOf (c .job)) (runOf (c .job) k) (chosenIn (c .job) k) (clear-run (c .job) (good-job (c .job) (d .reducing .good)) k (d .reducing .run .inside))
+    few = at-most-for (versionOf (c .job)) (figureIn (c .figure)) (runOf (c .job) k) (chosenIn (c .job) k) (clear-run (c .job) (good-job (c .job) (d .reducing .good)) k (d .reducing .run .inside))
 
     written : (i : ℕ) → i < length list → bytesOfFinding (c .findingsOut) i ≡ findingBytes (getD list i noFinding)
     written i inside =

@@ -1,5 +1,7 @@
 -- The theorems.
 pub mod Troubles
+pub mod FigureFile
+pub mod GoodFigures
 pub mod GoodParts
 pub mod ByTable
 pub mod Numbers
@@ -26,3 +28,4 @@ pub mod OwnLetter
 pub mod Starred
 pub mod Printed
 pub mod MovedFactor
+pub mod ByFigure

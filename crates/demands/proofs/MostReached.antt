@@ -23,7 +23,9 @@ use Rattle.choosing.specs.declared.Chosen.{Chosen}
 use Rattle.grounds.specs.Comparing.{holds, apart}
 use Rattle.factors.specs.Factor.{factorOf, coefficientOf, diametersOf}
 use Rattle.grounds.specs.Grounds.{broken}
-use Rattle.site.specs.Site.{diameter, halfDiameter, undisturbed, minimumPoints, nextAllowed}
+use Rattle.diameters.specs.Diameters.{diameter, halfDiameter}
+use Rattle.steps.specs.Steps.{noFigure}
+use Rattle.site.specs.Site.{undisturbed, minimumDisturbed, minimumPoints, nextAllowed}
 use Rattle.conditions.specs.Conditions.{missing, moved, uneven, short, leaking, lineAgainst, ratioAgainst, steadyLimit, unsteady}
 use Rattle.classes.specs.Classes.{placesOf}
 use Rattle.rules.specs.Rules.{table, groundOf}
@@ -104,10 +106,10 @@ full-in-range =
       balanced = refl;
     }
 
-full-findings : (v : Version) → length (findingsFor v fullRun noCertificates) ≡ mostFindings
-unfolding fullRun point segment filter noCertificates findingsFor linesFor findings findingsTo ruleFindings brokenAt broken partOf besideOf table groundOf placesOf missing moved uneven diameter halfDiameter undisturbed minimumPoints nextOf nextGrid nextAllowed short leaking lineAgainst ratioAgainst steadyLimit unsteady ofKind holds apart factorOf coefficientOf diametersOf lines metering stack sampling time meteredVolume allowance leakLoss leakLosses correctedVolume dryVolume moisture wetWeight densityRoot velocity drawnGas isokinetic finalWeights tares catch deduction roundDiv unlessZero sumTo
+full-findings : (v : Version) → length (findingsFor v noFigure fullRun noCertificates) ≡ mostFindings
+unfolding fullRun point segment filter noCertificates findingsFor linesFor findings findingsTo ruleFindings brokenAt broken partOf besideOf table groundOf placesOf missing moved uneven diameter halfDiameter undisturbed noFigure minimumDisturbed minimumPoints nextOf nextGrid nextAllowed short leaking lineAgainst ratioAgainst steadyLimit unsteady ofKind holds apart factorOf coefficientOf diametersOf lines metering stack sampling time meteredVolume allowance leakLoss leakLosses correctedVolume dryVolume moisture wetWeight densityRoot velocity drawnGas isokinetic finalWeights tares catch deduction roundDiv unlessZero sumTo
 full-findings v = refl
 
 -- Some run in range has 98, whatever the job's version
-pub reached : (r : Run) × (ch : Chosen) × (RunOk r × ((v : Version) → length (findingsFor v r ch) ≡ mostFindings))
+pub reached : (r : Run) × (ch : Chosen) × (RunOk r × ((v : Version) → length (findingsFor v noFigure r ch) ≡ mostFindings))
 reached = (fullRun, noCertificates, (full-in-range, full-findings))

@@ -26,6 +26,7 @@ use Rattle.choosing.specs.Choosing.{eligible, keep, chosen, chosenFor, SameMemb
 use Rattle.grounds.specs.Comparing.{holds, apart}
 use Rattle.factors.specs.Factor.{factorMoved, lowerIfMoved, factor, factorFrom, factorOf}
 use Rattle.classes.specs.Classes.{classOf}
+use Rattle.steps.specs.declared.Figure.{Figure}
 use Rattle.findings.specs.Listing.{findings, accepted, linesFor, findingsFor, Breaks}
 use Rattle.findings.proofs.Accepting.{accepted-exactly}
 use Rattle.findings.proofs.Members.{listed-exactly}
@@ -38,7 +39,8 @@ use Rattle.job.specs.Troubles.{partsTrouble, runTrouble, numberBefore, jobTroub
 use Rattle.job.specs.Worked.{movedJob}
 use Rattle.reduction.specs.Reducing.{chosenIn}
 use Rattle.writing.specs.Bytes.{sheetSize, findingSize}
-use Rattle.demands.specs.Demands.{SameRecords, SameBytes}
+use Rattle.demands.specs.FigureFile.{noFile}
+use Rattle.demands.specs.Demands.{SameFigure, SameRecords, SameBytes}
 use Rattle.demands.specs.MovedFactor.{Moved, LowerAndNote, BeforeAndVoid, AnotherY}
 use Rattle.demands.proofs.Sorted.{class-at}
 use Rattle.demands.proofs.Printed.{kept, voided}
@@ -66,9 +68,9 @@ unfolding factor
 before-factor b Nothing = refl
 before-factor b (Found a) = refl
 
-pub before-and-void : (r : Run) (ch : Chosen) → BeforeAndVoid r ch
+pub before-and-void : (fig : Figure) (r : Run) (ch : Chosen) → BeforeAndVoid fig r ch
 unfolding factorOf findingsFor classOf
-before-and-void r ch =
+before-and-void fig r ch =
     record {
       class = refl;
       factor = λ b before. rw before (before-factor b (ch .after));
@@ -76,11 +78,11 @@ before-and-void r ch =
       void = void;
     }
   where
-    void : Breaks r ch (linesFor Two r ch) 5 0 → accepted (findings Two r ch (linesFor Two r ch)) ≡ true → ⊥
+    void : Breaks fig r ch (linesFor Two r ch) 5 0 → accepted (findings Two fig r ch (linesFor Two r ch)) ≡ true → ⊥
     void broken stands =
-        let has = listed-exactly Two r ch (linesFor Two r ch) 5 0 .1 broken in
-        let class = class-at Two r ch (linesFor Two r ch) (has .index) (has .inside) in
-        accepted-exactly (findings Two r ch (linesFor Two r ch)) .0 stands (has .index) (has .inside) (rw (has .same .0) at class)
+        let has = listed-exactly Two fig r ch (linesFor Two r ch) 5 0 .1 broken in
+        let class = class-at Two fig r ch (linesFor Two r ch) (has .index) (has .inside) in
+        accepted-exactly (findings Two fig r ch (linesFor Two r ch)) .0 stands (has .index) (has .inside) (rw (has .same .0) at class)
 
 -- The same records in both versions
 
@@ -99,7 +101,7 @@ certificates (suc (suc zero)) inside = refl
 certificates (suc (suc (suc zero))) inside = refl
 certificates (suc (suc (suc (suc i)))) inside = absurd (omega arith)
 
-same-members : (kind : ℕ) (identity : Identity) (f g : ℕ → Certificate) (n : ℕ) → ((i : ℕ) → i < n → f i ≡ g i) → SameMembers kind identity f n g n
+pub same-members : (kind : ℕ) (identity : Identity) (f g : ℕ → Certificate) (n : ℕ) → ((i : ℕ) → i < n → f i ≡ g i) → SameMembers kind identity f n g n
 same-members kind identity f g n same =
     record {
       into = record { held = λ i inside is. (i, (inside, sym (same i inside))) };
@@ -133,12 +135,12 @@ another-y =
     record { first = refl; second = refl; same = same-records; lower = refl; before = refl; kept = kept; voided = voided }
 
 -- So without the version two jobs would not come to the same
-pub version-counts : SameBytes SameRecords → ⊥
+pub version-counts : SameBytes SameFigure SameRecords → ⊥
 version-counts same-bytes =
     let lines : List ℕ = replicate sheetSize 0 in
     let findings : List ℕ = replicate (findingSize * 2) 0 in
     let other =
-    same-bytes (movedJob One) (movedJob Two) 7 same-records lines findings _ _ _
+    same-bytes noFile noFile (movedJob One) (movedJob Two) 7 refl same-records lines findings _ _ _
     (record { answer = refl; lines = refl; findings = refl }) in
     let never : _≡_ {A = ℕ} 65538 2 = sym (kept .answer) ∙ other .answer ∙ voided .answer in
     absurd (omega arith)

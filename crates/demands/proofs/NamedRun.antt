@@ -5,6 +5,7 @@ use mathlib.Core.List.{List}
 use native.Mathlib.Decide.{decLt}
 use native.Mathlib.Omega.{arith}
 use Rattle.fields.specs.declared.trouble.Trouble.the-variants.{Clear}
+use Rattle.steps.specs.declared.Figure.{Figure}
 use Rattle.opening.specs.Opening.{runCountOf}
 use Rattle.job.specs.Places.{runOf}
 use Rattle.job.specs.Troubles.{jobTrouble}
@@ -47,14 +48,14 @@ module _ (s : List ℕ) (run : ℕ) (clear : jobTrouble s ≡ Clear) where
       go (Index j) e = absurd (none j (found-inside (runOf s) run (runCountOf s) e) (named (runOf s) run (runCountOf s) e))
 
   -- the outcome is that run's, or the refusal 10
-  pub outcome-of-run : (k lines findings : ℕ) → k < runCountOf s → runOf s k .header .number ≡ run → outcome s run lines findings ≡ handed (reducedRun s k) lines findings
+  pub outcome-of-run : (fig : Figure) (k lines findings : ℕ) → k < runCountOf s → runOf s k .header .number ≡ run → outcome fig s run lines findings ≡ handed (reducedRun fig s k) lines findings
   unfolding outcome
-  outcome-of-run k lines findings inside number =
-      ap (λ t. ofTrouble t s run lines findings) clear
-      ∙ ap (λ which. ofRun s which lines findings) (found-by-number k inside number)
+  outcome-of-run fig k lines findings inside number =
+      ap (λ t. ofTrouble t fig s run lines findings) clear
+      ∙ ap (λ which. ofRun fig s which lines findings) (found-by-number k inside number)
 
-  pub outcome-of-none : (lines findings : ℕ) → ((k : ℕ) → k < runCountOf s → runOf s k .header .number ≡ run → ⊥) → outcome s run lines findings ≡ refused 10 0
+  pub outcome-of-none : (fig : Figure) (lines findings : ℕ) → ((k : ℕ) → k < runCountOf s → runOf s k .header .number ≡ run → ⊥) → outcome fig s run lines findings ≡ refused 10 0
   unfolding outcome
-  outcome-of-none lines findings none =
-      ap (λ t. ofTrouble t s run lines findings) clear
-      ∙ ap (λ which. ofRun s which lines findings) (not-found none)
+  outcome-of-none fig lines findings none =
+      ap (λ t. ofTrouble t fig s run lines findings) clear
+      ∙ ap (λ which. ofRun fig s which lines findings) (not-found none)

@@ -32,9 +32,9 @@ entry-known s k = first-told known _ _ (told-at (λ n. known n 0) s _ (certifica
 parts-known : (s : List ℕ) (start : ℕ) (n : Counts) → Known (partsTrouble s start n)
 unfolding partsTrouble
 parts-known s start n =
-    first-told known _ _ (up-told known _ (n .points) (λ i. told-at (λ n. known n 0) s _ pointSize _ refl refl))
-    (first-told known _ _ (up-told known _ (n .segments) (λ i. told-at (λ n. known n 0) s _ segmentSize _ refl refl))
-    (first-told known _ _ (up-told known _ (n .weighings) (λ i. told-at (λ n. known n 0) s _ weighingSize _ refl refl)) (unless-told known (goodSeconds s start n) 7 start refl)))
+    first-told known _ _ (up-told known _ (n .points) (λ i inside. told-at (λ n. known n 0) s _ pointSize _ refl refl))
+    (first-told known _ _ (up-told known _ (n .segments) (λ i inside. told-at (λ n. known n 0) s _ segmentSize _ refl refl))
+    (first-told known _ _ (up-told known _ (n .weighings) (λ i inside. told-at (λ n. known n 0) s _ weighingSize _ refl refl)) (unless-told known (goodSeconds s start n) 7 start refl)))
 
 run-known : (s : List ℕ) (start lower : ℕ) → Known (runTrouble s start lower)
 unfolding runTrouble
@@ -47,8 +47,8 @@ unfolding jobTrouble
 job-known s =
     let end = runStart s (runCountOf s) in
     first-told known _ _ (told-at (λ n. known n 0) s 0 fileHeaderSize _ refl refl)
-    (first-told known _ _ (up-told known (entryTrouble s) _ (entry-known s))
-    (first-told known _ _ (up-told known _ _ (λ k. run-known s (runStart s k) (numberBefore s k))) (unless-told known (leb (length s) end) 8 end refl)))
+    (first-told known _ _ (up-told known (entryTrouble s) _ (λ k inside. entry-known s k))
+    (first-told known _ _ (up-told known _ _ (λ k inside. run-known s (runStart s k) (numberBefore s k))) (unless-told known (leb (length s) end) 8 end refl)))
 
 pub numbers : (s : List ℕ) {n p : ℕ} → jobTrouble s ≡ At n p → (1 ≤ n) × (n ≤ 8)
 numbers s {n} {p} e =

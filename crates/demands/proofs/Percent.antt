@@ -30,13 +30,14 @@ use Rattle.conditions.specs.Conditions.{ratioAgainst}
 use Rattle.conditions.proofs.Words.{ratio-exactly}
 use Rattle.classes.specs.Classes.{placesOf, placeAt}
 use Rattle.rules.specs.Rules.{lastRule, table, groundOf}
+use Rattle.steps.specs.declared.Figure.{Figure}
 use Rattle.findings.specs.Listing.{besideOf, brokenAt, linesFor}
 use Rattle.demands.specs.Equations.{equations, equation}
 use Rattle.demands.specs.Percent.{dividend, divisor, BreaksWhole, JudgedExactly, NotJudged}
 
 -- a rule of one place, the whole run, is broken exactly where it is broken at that place
-whole : (v : Version) (r : Run) (ch : Chosen) (rule : ℕ) → 1 ≤ rule → rule ≤ lastRule → placesOf (r .header .counts) rule ≡ 1 → placeAt rule 0 ≡ 0 → BreaksWhole v r ch rule ↔ (brokenAt r ch (linesFor v r ch) rule 0 ≡ true)
-whole v r ch rule first last one place = (
+whole : (v : Version) (fig : Figure) (r : Run) (ch : Chosen) (rule : ℕ) → 1 ≤ rule → rule ≤ lastRule → placesOf (r .header .counts) rule ≡ 1 → placeAt rule 0 ≡ 0 → BreaksWhole v fig r ch rule ↔ (brokenAt fig r ch (linesFor v r ch) rule 0 ≡ true)
+whole v fig r ch rule first last one place = (
   λ b. let inside = b .inside in let zero : b .index ≡ 0 = omega arith in rw zero at (b .broken),
   λ e. record { first = first; last = last; index = 0; inside = omega arith; there = sym place; broken = e },
 )
@@ -52,7 +53,7 @@ above a b = (ltb-true b a, lt-ltb b a)
 through : {P Q : Type 0} {a b : Bool} → P ↔ (a ≡ true) → a ≡ b → (b ≡ true) ↔ Q → P ↔ Q
 through (to, from) same (on, back) = (λ p. on (sym same ∙ to p), λ q. from (same ∙ back q))
 
-module _ (v : Version) (r : Run) (ch : Chosen) where
+module _ (v : Version) (fig : Figure) (r : Run) (ch : Chosen) where
   abbrev l : Lines
   l = linesFor v r ch
 
@@ -77,19 +78,19 @@ module _ (v : Version) (r : Run) (ch : Chosen) where
   unfolding linesFor lines metering stack sampling equations
   at18 = refl
 
-  fifteen : BreaksWhole v r ch 15 ↔ (broken (ratioAgainst (l .sampling .isokinetic) Below 9000) ≡ true)
+  fifteen : BreaksWhole v fig r ch 15 ↔ (broken (ratioAgainst (l .sampling .isokinetic) Below 9000) ≡ true)
   unfolding placesOf placeAt besideOf brokenAt table groundOf
-  fifteen = whole v r ch 15 (omega arith) (omega arith) refl refl
+  fifteen = whole v fig r ch 15 (omega arith) (omega arith) refl refl
 
-  sixteen : BreaksWhole v r ch 16 ↔ (broken (ratioAgainst (l .sampling .isokinetic) Above 11000) ≡ true)
+  sixteen : BreaksWhole v fig r ch 16 ↔ (broken (ratioAgainst (l .sampling .isokinetic) Above 11000) ≡ true)
   unfolding placesOf placeAt besideOf brokenAt table groundOf
-  sixteen = whole v r ch 16 (omega arith) (omega arith) refl refl
+  sixteen = whole v fig r ch 16 (omega arith) (omega arith) refl refl
 
   worked : (l .sampling .isokinetic ≡ Unworked) ⊎ WorkedFrom (l .sampling .drawn) (l .stack .velocity) (l .sampling .area) (l .metering .time)
   unfolding linesFor lines sampling
   worked = worked-or-not _ _ _ _
 
-  not-judged : l .sampling .isokinetic ≡ Unworked → NotJudged v r ch
+  not-judged : l .sampling .isokinetic ≡ Unworked → NotJudged v fig r ch
   unfolding broken ratioAgainst
   not-judged none =
       record {
@@ -98,7 +99,7 @@ module _ (v : Version) (r : Run) (ch : Chosen) where
         sixteen = λ b. false≢true (rw none at (sixteen .0 b));
       }
 
-  judged-exactly : (w : WorkedFrom (l .sampling .drawn) (l .stack .velocity) (l .sampling .area) (l .metering .time)) → 0 < divisor (w .speed) (w .opening) (l .metering .time) → JudgedExactly v r ch
+  judged-exactly : (w : WorkedFrom (l .sampling .drawn) (l .stack .velocity) (l .sampling .area) (l .metering .time)) → 0 < divisor (w .speed) (w .opening) (l .metering .time) → JudgedExactly v fig r ch
   unfolding linesFor lines sampling division
   judged-exactly w some =
       let n : ℕ = dividend (w .gas) in
@@ -119,13 +120,13 @@ module _ (v : Version) (r : Run) (ch : Chosen) where
       }
 
 -- For every run and certificates within the ranges: line 18 is absent, or both rules go by its exact quotient
-pub judged-by-quotient : (v : Version) (r : Run) (ch : Chosen) → RunOk r → ChosenOk ch → NotJudged v r ch ⊎ JudgedExactly v r ch
+pub judged-by-quotient : (v : Version) (fig : Figure) (r : Run) (ch : Chosen) → RunOk r → ChosenOk ch → NotJudged v fig r ch ⊎ JudgedExactly v fig r ch
 unfolding linesFor lines metering sampling time
-judged-by-quotient v r ch ok certificates = go (worked v r ch)
+judged-by-quotient v fig r ch ok certificates = go (worked v fig r ch)
   where
     time-some : leastSeconds ≤ time (r .points) (r .header .counts .points)
     time-some = is-time (r .points) (r .header .counts .points) _ (points-ok r ok) (time-most r ok) refl .low
 
-    go : (linesFor v r ch .sampling .isokinetic ≡ Unworked) ⊎ WorkedFrom (linesFor v r ch .sampling .drawn) (linesFor v r ch .stack .velocity) (linesFor v r ch .sampling .area) (linesFor v r ch .metering .time) → NotJudged v r ch ⊎ JudgedExactly v r ch
-    go (inl none) = inl (not-judged v r ch none)
-    go (inr w) = inr (judged-exactly v r ch w (divisor-some (diameters-range ch certificates) (w .is-area) (w .moving) time-some))
+    go : (linesFor v r ch .sampling .isokinetic ≡ Unworked) ⊎ WorkedFrom (linesFor v r ch .sampling .drawn) (linesFor v r ch .stack .velocity) (linesFor v r ch .sampling .area) (linesFor v r ch .metering .time) → NotJudged v fig r ch ⊎ JudgedExactly v fig r ch
+    go (inl none) = inl (not-judged v fig r ch none)
+    go (inr w) = inr (judged-exactly v fig r ch w (divisor-some (diameters-range ch certificates) (w .is-area) (w .moving) time-some))

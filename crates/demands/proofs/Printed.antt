@@ -16,7 +16,10 @@ use Rattle.grounds.specs.Comparing.{holds, deciding, apart}
 use Rattle.factors.specs.Factor.{factorMoved, lowerIfMoved, factor, factorOf, coefficientOf, diametersOf}
 use Rattle.grounds.specs.Grounds.{broken}
 use Rattle.findings.specs.Listing.{partOf, ofKind, besideOf, brokenAt, findingAt, ruleFindings, findingsTo, findings, accepted, listed, linesFor, findingsFor}
-use Rattle.site.specs.Site.{diameter, halfDiameter, undisturbed, minimumPoints, nextAllowed}
+use Rattle.diameters.specs.Diameters.{diameter, halfDiameter}
+use Rattle.steps.specs.Steps.{noFigure, reaches, lastReached, asked}
+use Rattle.site.specs.Site.{undisturbed, minimumDisturbed, minimumPoints, nextAllowed}
+use Rattle.figures.specs.Figures.{openingRows, stepsRows, listRows, stepsAt, figureTrouble, readFigure}
 use Rattle.conditions.specs.Conditions.{missing, moved, uneven, short, leaking, lineAgainst, ratioAgainst, steadyLimit, unsteady}
 use Rattle.classes.specs.Classes.{placesOf, placeAt, classOf}
 use Rattle.rules.specs.Rules.{table, groundOf}
@@ -39,12 +42,24 @@ use Rattle.runs.specs.Outcomes.{outcome}
 use Rattle.lines.specs.Starred.{workedLines}
 use Rattle.demands.specs.Starred.{PrintedJob}
 use Rattle.demands.specs.MovedFactor.{Kept, Voided}
+use Rattle.demands.specs.ByFigure.{EitherWay}
 
-computed : PrintedJob × (Kept × Voided)
-unfolding grown floorRoot nearestRoot roundDiv division within signedWithin sameIdentity sumTo time meteredVolume allowance leakLoss leakLosses correctedVolume meanOrifice meterPressure meterTemperature dryVolume waterVapor moisture unlessZero addScaled nozzleArea drawnGas isokinetic deduction finalWeights tares catch concentration metering stack sampling lines sheet dryWeight wetWeight stackPressure stackTemperature pointRoot meanRoot densityRoot velocity eligible keep chosen chosenFor holds deciding apart factorMoved lowerIfMoved factor factorOf coefficientOf diametersOf broken brokenAt findingAt ruleFindings findingsTo findings accepted listed linesFor findingsFor missing moved uneven diameter halfDiameter undisturbed minimumPoints nextOf nextGrid nextAllowed short leaking lineAgainst ratioAgainst steadyLimit unsteady table groundOf partOf ofKind besideOf placesOf placeAt classOf u16At u32At i16At versionOf first checks upTo padded filledTo recordTrouble runAt runStart readJob anyTo partsTrouble runTrouble numberBefore jobTrouble worked reduction chosenIn reducedRun runNamed packed le spliced joined entryBytes sheetBytes findingBytes findingsBytes handed outcome success answerOf linesAfter findingsAfter workedLines
+computed : PrintedJob × (Kept × (Voided × EitherWay))
+unfolding grown floorRoot nearestRoot roundDiv division within signedWithin sameIdentity sumTo time meteredVolume allowance leakLoss leakLosses correctedVolume meanOrifice meterPressure meterTemperature dryVolume waterVapor moisture unlessZero addScaled nozzleArea drawnGas isokinetic deduction finalWeights tares catch concentration metering stack sampling lines sheet dryWeight wetWeight stackPressure stackTemperature pointRoot meanRoot densityRoot velocity eligible keep chosen chosenFor holds deciding apart factorMoved lowerIfMoved factor factorOf coefficientOf diametersOf broken brokenAt findingAt ruleFindings findingsTo findings accepted listed linesFor findingsFor missing moved uneven diameter halfDiameter undisturbed noFigure reaches lastReached asked openingRows stepsRows listRows stepsAt figureTrouble readFigure minimumDisturbed minimumPoints nextOf nextGrid nextAllowed short leaking lineAgainst ratioAgainst steadyLimit unsteady table groundOf partOf ofKind besideOf placesOf placeAt classOf u16At u32At i16At versionOf first checks upTo padded filledTo recordTrouble runAt runStart readJob anyTo partsTrouble runTrouble numberBefore jobTrouble worked reduction chosenIn reducedRun runNamed packed le spliced joined entryBytes sheetBytes findingBytes findingsBytes handed outcome success answerOf linesAfter findingsAfter workedLines
 computed = (
   record { answer = refl; lines = refl; findings = refl },
-  (record { answer = refl; lines = refl; findings = refl }, record { answer = refl; lines = refl; findings = refl }),
+  (
+    record { answer = refl; lines = refl; findings = refl },
+    (
+      record { answer = refl; lines = refl; findings = refl },
+      record {
+        fewerWithout = record { answer = refl; lines = refl; findings = refl };
+        fewerBy = record { answer = refl; lines = refl; findings = refl };
+        moreWithout = record { answer = refl; lines = refl; findings = refl };
+        moreBy = record { answer = refl; lines = refl; findings = refl };
+      },
+    ),
+  ),
 )
 
 -- The worked job
@@ -56,4 +71,8 @@ pub kept : Kept
 kept = computed .1 .0
 
 pub voided : Voided
-voided = computed .1 .1
+voided = computed .1 .1 .0
+
+-- The same with a disturbance that is near, by a figure and without one
+pub either-way : EitherWay
+either-way = computed .1 .1 .1

@@ -18,6 +18,7 @@ use Rattle.choosing.specs.declared.Chosen.{Chosen}
 use Rattle.findings.specs.declared.Finding.{Finding}
 use Rattle.classes.specs.Classes.{placesOf, placeAt, classOf}
 use Rattle.rules.specs.Rules.{lastRule}
+use Rattle.steps.specs.declared.Figure.{Figure}
 use Rattle.findings.specs.Listing.{brokenAt, findingAt, ruleFindings, findingsTo, findings, noFinding}
 use Rattle.demands.specs.Demands.{Precedes}
 use Rattle.findings.proofs.Members.{at-index, OfRule, OfRules, rule-members, all-members}
@@ -100,30 +101,30 @@ sorted-at (f ∷ fs) s zero (suc j) l inside = s .0 (getD fs j noFinding) (at-in
 sorted-at (f ∷ fs) s (suc i) (suc j) l inside = sorted-at fs (s .1) i j (le-of-suc-le-suc l) (le-of-suc-le-suc inside)
 
 -- The list is in order: by rule, and then by place
-pub in-order : (v : Version) (r : Run) (ch : Chosen) (l : Lines) (i j : ℕ) → i < j → j < length (findings v r ch l) → Precedes (getD (findings v r ch l) i noFinding) (getD (findings v r ch l) j noFinding)
+pub in-order : (v : Version) (fig : Figure) (r : Run) (ch : Chosen) (l : Lines) (i j : ℕ) → i < j → j < length (findings v fig r ch l) → Precedes (getD (findings v fig r ch l) i noFinding) (getD (findings v fig r ch l) j noFinding)
 unfolding findings
-in-order v r ch l i j = sorted-at (findings v r ch l) (all-sorted v (r .header .counts) (brokenAt r ch l) lastRule) i j
+in-order v fig r ch l i j = sorted-at (findings v fig r ch l) (all-sorted v (r .header .counts) (brokenAt fig r ch l) lastRule) i j
 
 not-before-itself : (a b : Finding) → Precedes a b → a .rule ≡ b .rule → a .place ≡ b .place → ⊥
 not-before-itself a b (inl lower) rule place = omega arith
 not-before-itself a b (inr (same, lower)) rule place = omega arith
 
 -- Each finding occurs once
-pub each-once : (v : Version) (r : Run) (ch : Chosen) (l : Lines) (i j : ℕ) → i < length (findings v r ch l) → j < length (findings v r ch l) → getD (findings v r ch l) i noFinding .rule ≡ getD (findings v r ch l) j noFinding .rule → getD (findings v r ch l) i noFinding .place ≡ getD (findings v r ch l) j noFinding .place → i ≡ j
-each-once v r ch l i j i-in j-in rule place = go (decLt i j) (decLt j i)
+pub each-once : (v : Version) (fig : Figure) (r : Run) (ch : Chosen) (l : Lines) (i j : ℕ) → i < length (findings v fig r ch l) → j < length (findings v fig r ch l) → getD (findings v fig r ch l) i noFinding .rule ≡ getD (findings v fig r ch l) j noFinding .rule → getD (findings v fig r ch l) i noFinding .place ≡ getD (findings v fig r ch l) j noFinding .place → i ≡ j
+each-once v fig r ch l i j i-in j-in rule place = go (decLt i j) (decLt j i)
   where
     at : ℕ → Finding
-    at k = getD (findings v r ch l) k noFinding
+    at k = getD (findings v fig r ch l) k noFinding
 
     go : Dec (i < j) → Dec (j < i) → i ≡ j
-    go (yes lower) d = absurd (not-before-itself (at i) (at j) (in-order v r ch l i j lower j-in) rule place)
-    go (no first) (yes higher) = absurd (not-before-itself (at j) (at i) (in-order v r ch l j i higher i-in) (sym rule) (sym place))
+    go (yes lower) d = absurd (not-before-itself (at i) (at j) (in-order v fig r ch l i j lower j-in) rule place)
+    go (no first) (yes higher) = absurd (not-before-itself (at j) (at i) (in-order v fig r ch l j i higher i-in) (sym rule) (sym place))
     go (no first) (no second) = omega arith
 
 -- Each finding has its rule's class
-pub class-at : (v : Version) (r : Run) (ch : Chosen) (l : Lines) (i : ℕ) → i < length (findings v r ch l) → getD (findings v r ch l) i noFinding .class ≡ classOf v (getD (findings v r ch l) i noFinding .rule)
+pub class-at : (v : Version) (fig : Figure) (r : Run) (ch : Chosen) (l : Lines) (i : ℕ) → i < length (findings v fig r ch l) → getD (findings v fig r ch l) i noFinding .class ≡ classOf v (getD (findings v fig r ch l) i noFinding .rule)
 unfolding findings findingAt
-class-at v r ch l i inside =
-    let o : OfRules v (brokenAt r ch l) (placesOf (r .header .counts)) lastRule (getD (findings v r ch l) i noFinding) =
-    all-members v (brokenAt r ch l) (placesOf (r .header .counts)) lastRule (at-index (findings v r ch l) i inside) in
+class-at v fig r ch l i inside =
+    let o : OfRules v (brokenAt fig r ch l) (placesOf (r .header .counts)) lastRule (getD (findings v fig r ch l) i noFinding) =
+    all-members v (brokenAt fig r ch l) (placesOf (r .header .counts)) lastRule (at-index (findings v fig r ch l) i inside) in
     rw (o .of .is)

@@ -5,15 +5,17 @@ use native.Mathlib.Omega.{arith}
 use lib.Dec.{lit≤}
 use Rattle.demands.proofs.Numbers.{numbers}
 use Rattle.output.specs.Answers.{packed}
-use Rattle.demands.specs.Table.{CallRefused, ofFile, row9, row10}
+use Rattle.demands.specs.Table.{CallRefused, row14, ofFile, row9, row10}
+use Rattle.demands.specs.FigureFile.{Lent}
 use Rattle.demands.specs.Demands.{Call, Promised, Succeeds, ReducesRun, CameTo, byRow, toRun}
 use Rattle.demands.proofs.ByTable.{row-told}
 use Rattle.demands.proofs.Demand1.{came-to}
 
-some-number : {s : List ℕ} {run lines findings n p : ℕ} → CallRefused s run lines findings n p → 1 ≤ n
-some-number (ofFile {number} {place} row) = numbers _ (row-told _ row) .0
-some-number (row10 good none) = lit≤ tt
-some-number (row9 good k inside number short) = lit≤ tt
+some-number : {l : Lent} {s : List ℕ} {run lines findings n p : ℕ} → CallRefused l s run lines findings n p → 1 ≤ n
+some-number (row14 f is bad) = lit≤ tt
+some-number (ofFile figure {number} {place} row) = numbers _ (row-told _ row) .0
+some-number (row10 figure good none) = lit≤ tt
+some-number (row9 figure good k inside number short) = lit≤ tt
 
 -- the run that a successful call reduced
 pub record Done (c : Call) : Type 0 where

@@ -15,6 +15,7 @@ use Rattle.factors.specs.InRange.{ChosenOk}
 use Rattle.factors.proofs.Values.{factor-range}
 use Rattle.grounds.specs.Grounds.{broken}
 use Rattle.rules.specs.Rules.{table, groundOf}
+use Rattle.steps.specs.declared.Figure.{Figure}
 use Rattle.findings.specs.Listing.{brokenAt, findings, linesFor, HasFinding}
 use Rattle.findings.proofs.Members.{listed-exactly}
 
@@ -25,6 +26,6 @@ line-6-at-least-1 v r ch run certificates some y known =
     rw known (dry-some r y run (factor-range v ch certificates .known y known .0) (rw known at some))
 
 -- No list of findings holds a 13
-pub no-finding-13 : (v : Version) (r : Run) (ch : Chosen) (l : Lines) (place : ℕ) → HasFinding (findings v r ch l) 13 place → ⊥
+pub no-finding-13 : (v : Version) (fig : Figure) (r : Run) (ch : Chosen) (l : Lines) (place : ℕ) → HasFinding (findings v fig r ch l) 13 place → ⊥
 unfolding brokenAt broken table groundOf
-no-finding-13 v r ch l place has = false≢true (listed-exactly v r ch l 13 place .0 has .broken)
+no-finding-13 v fig r ch l place has = false≢true (listed-exactly v fig r ch l 13 place .0 has .broken)

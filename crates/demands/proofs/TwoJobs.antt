@@ -1,5 +1,5 @@
--- Demand 3, two jobs: a run's answer hangs on its own record, its own certificates and the job's version alone, and on the version only where
--- the run breaks rule 5.
+-- Demand 3, two jobs: a run's answer hangs on its own record, its own certificates, the job's version and the figure alone, and on the
+-- version only where the run breaks rule 5.
 use Prim.Native.Nat.{ℕ, _<_}
 use mathlib.Core.Path.{_≡_, sym, _∙_, ap}
 use mathlib.Core.List.{List}
@@ -11,6 +11,8 @@ use Rattle.records.specs.declared.Run.{Run}
 use Rattle.choosing.specs.declared.Chosen.{Chosen}
 use Rattle.choosing.specs.Choosing.{Unique, Of}
 use Rattle.choosing.proofs.Choosing.{chosenFor-same-members}
+use Rattle.steps.specs.declared.Figure.{Figure}
+use Rattle.steps.specs.Steps.{noFigure}
 use Rattle.heads.specs.Values.{certificateOf}
 use Rattle.opening.specs.Opening.{versionOf, certificateCountOf}
 use Rattle.job.specs.Places.{runOf}
@@ -18,9 +20,10 @@ use Rattle.job.specs.Troubles.{jobTrouble}
 use Rattle.job.proofs.ClearJobs.{unique}
 use Rattle.reduction.specs.Reducing.{worked, reduction, chosenIn, reducedRun}
 use Rattle.handing.specs.Handing.{handed}
-use Rattle.runs.specs.Outcomes.{outcome}
+use Rattle.runs.specs.Outcomes.{outcome, unlessBadFigure}
 use Rattle.leverbonnet.specs.Calls.{Reduces}
-use Rattle.demands.specs.Demands.{SameRecords, SameRun, SameBytes}
+use Rattle.demands.specs.FigureFile.{Lent, supplied, figureIn}
+use Rattle.demands.specs.Demands.{SameRecords, SameRun, SameFigure, SameBytes}
 use Rattle.demands.specs.MovedFactor.{SameUnmoved}
 use Rattle.demands.proofs.NamedRun.{outcome-of-run}
 use Rattle.demands.proofs.SameOutcomes.{reduces-same}
@@ -47,33 +50,36 @@ module _ (s t : List ℕ) (run : ℕ) (same : SameRecords s t run) where
   ch = chosenIn s (same .index)
 
   -- reduced, it is what it is in the second, lines and findings, where it is worked alike by both versions
-  same-reduced : worked (versionOf s) r ch ≡ worked (versionOf t) r ch → reducedRun s (same .index) ≡ reducedRun t (same .other)
+  same-reduced : (fig : Figure) → worked (versionOf s) fig r ch ≡ worked (versionOf t) fig r ch → reducedRun fig s (same .index) ≡ reducedRun fig t (same .other)
   unfolding reducedRun reduction chosenIn
-  same-reduced alike =
+  same-reduced fig alike =
       let chosen = chosenFor-same-members (r .header) (certificateOf s) (certificateCountOf s) (certificateOf t) (certificateCountOf t) (read-unique s (same .first)) (same .certificates) in
-      alike ∙ ap (worked (versionOf t) r) chosen ∙ rw (same .record′)
+      alike ∙ ap (worked (versionOf t) fig r) chosen ∙ rw (same .record′)
 
   -- and so is what the call answers and writes
-  same-reduces : worked (versionOf s) r ch ≡ worked (versionOf t) r ch → (linesIn findingsIn linesOut findingsOut : List ℕ) (result : ℕ) → Reduces s run linesIn findingsIn linesOut findingsOut result → Reduces t run linesIn findingsIn linesOut findingsOut result
-  same-reduces alike linesIn findingsIn linesOut findingsOut result = reduces-same s t same-outcome
+  same-reduces : (l : Lent) → worked (versionOf s) (figureIn l) r ch ≡ worked (versionOf t) (figureIn l) r ch → (linesIn findingsIn linesOut findingsOut : List ℕ) (result : ℕ) → Reduces (supplied l) s run linesIn findingsIn linesOut findingsOut result → Reduces (supplied l) t run linesIn findingsIn linesOut findingsOut result
+  same-reduces l alike linesIn findingsIn linesOut findingsOut result =
+      reduces-same (supplied l) (supplied l) s t (ap (unlessBadFigure (supplied l .trouble)) same-outcome)
     where
-      same-outcome : outcome s run (length linesIn) (length findingsIn) ≡ outcome t run (length linesIn) (length findingsIn)
+      same-outcome : outcome (figureIn l) s run (length linesIn) (length findingsIn) ≡ outcome (figureIn l) t run (length linesIn) (length findingsIn)
       same-outcome =
-          outcome-of-run s run (same .first) (same .index) (length linesIn) (length findingsIn) (same .inside) (same .number)
-          ∙ ap (λ r. handed r (length linesIn) (length findingsIn)) (same-reduced alike)
-          ∙ sym (outcome-of-run t run (same .second) (same .other) (length linesIn) (length findingsIn) (same .within) (ap (λ r. r .header .number) (sym (same .record′)) ∙ same .number))
+          outcome-of-run s run (same .first) (figureIn l) (same .index) (length linesIn) (length findingsIn) (same .inside) (same .number)
+          ∙ ap (λ r. handed r (length linesIn) (length findingsIn)) (same-reduced (figureIn l) alike)
+          ∙ sym (outcome-of-run t run (same .second) (figureIn l) (same .other) (length linesIn) (length findingsIn) (same .within) (ap (λ r. r .header .number) (sym (same .record′)) ∙ same .number))
 
--- Two jobs of one version: what the call answers and writes for one, it answers and writes for the other, byte for byte
-pub same-bytes : SameBytes SameRun
-same-bytes s t run alike =
+-- Two jobs of one version and one figure, or none: what the call answers and writes for one, it answers and writes for the other, byte for
+-- byte
+pub same-bytes : SameBytes SameFigure SameRun
+same-bytes l m s t run figures alike =
     let r = runOf s (alike .records .index) in
     let ch = chosenIn s (alike .records .index) in
-    same-reduces s t run (alike .records) (ap (λ v. worked v r ch) (alike .version))
+    rw (← figures) (same-reduces s t run (alike .records) l (ap (λ v. worked v (figureIn l) r ch) (alike .version)))
 
 -- Two jobs of whatever versions, where the run does not break rule 5
-pub same-unless-moved : SameBytes SameUnmoved
-same-unless-moved s t run alike =
+pub same-unless-moved : SameBytes SameFigure SameUnmoved
+same-unless-moved l m s t run figures alike =
     let r = runOf s (alike .records .index) in
     let ch = chosenIn s (alike .records .index) in
-    let unmoved = not-moved r ch _ (alike .unmoved) in
-    same-reduces s t run (alike .records) (worked-same (versionOf s) r ch unmoved ∙ sym (worked-same (versionOf t) r ch unmoved))
+    let unmoved = not-moved noFigure r ch _ (alike .unmoved) in
+    rw (← figures)
+    (same-reduces s t run (alike .records) l (worked-same (versionOf s) (figureIn l) r ch unmoved ∙ sym (worked-same (versionOf t) (figureIn l) r ch unmoved)))

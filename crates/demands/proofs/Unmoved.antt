@@ -19,6 +19,7 @@ use Rattle.factors.specs.Factor.{factorMoved, lowerIfMoved, factor, factorFrom,
 use Rattle.conditions.specs.Conditions.{moved}
 use Rattle.classes.specs.Classes.{placesOf, placeAt, classOf}
 use Rattle.rules.specs.Rules.{lastRule, table, groundOf}
+use Rattle.steps.specs.declared.Figure.{Figure}
 use Rattle.findings.specs.Listing.{besideOf, brokenAt, findingAt, ruleFindings, findingsTo, findings, linesFor, findingsFor, Breaks}
 use Rattle.reduction.specs.Reducing.{worked}
 
@@ -69,28 +70,28 @@ module _ (v : Version) where
   all-same isBroken places (suc k) same =
       ap₂ (λ fs gs. fs ++ gs) (all-same isBroken places k same) (rule-same (isBroken (k + 1)) (k + 1) (places (k + 1)) (same (k + 1)))
 
-module _ (v : Version) (r : Run) (ch : Chosen) (e : Unmoved ch) where
-  not-five : (l : Lines) (rule i : ℕ) → brokenAt r ch l rule i ≡ true → rule ≡ 5 → ⊥
+module _ (v : Version) (fig : Figure) (r : Run) (ch : Chosen) (e : Unmoved ch) where
+  not-five : (l : Lines) (rule i : ℕ) → brokenAt fig r ch l rule i ≡ true → rule ≡ 5 → ⊥
   unfolding besideOf brokenAt table groundOf
   not-five l rule i is five = true≢false (sym (rw five at is) ∙ e)
 
-  findings-same : (l : Lines) → findings v r ch l ≡ findings Two r ch l
+  findings-same : (l : Lines) → findings v fig r ch l ≡ findings Two fig r ch l
   unfolding findings
   findings-same l =
-      all-same v (brokenAt r ch l) (placesOf (r .header .counts)) lastRule (λ rule i is. class-same v rule (not-five l rule i is))
+      all-same v (brokenAt fig r ch l) (placesOf (r .header .counts)) lastRule (λ rule i is. class-same v rule (not-five l rule i is))
 
   lines-same : linesFor v r ch ≡ linesFor Two r ch
   unfolding linesFor
   lines-same = rw (factor-same v ch e)
 
-  pub worked-same : worked v r ch ≡ worked Two r ch
+  pub worked-same : worked v fig r ch ≡ worked Two fig r ch
   unfolding worked findingsFor
   worked-same = rw (findings-same, lines-same)
 
 -- a run that does not break rule 5 has such a factor
-pub not-moved : (r : Run) (ch : Chosen) (l : Lines) → (Breaks r ch l 5 0 → ⊥) → Unmoved ch
+pub not-moved : (fig : Figure) (r : Run) (ch : Chosen) (l : Lines) → (Breaks fig r ch l 5 0 → ⊥) → Unmoved ch
 unfolding placesOf placeAt besideOf brokenAt table groundOf
-not-moved r ch l kept = go (broken (moved (ch .before) (ch .after))) refl
+not-moved fig r ch l kept = go (broken (moved (ch .before) (ch .after))) refl
   where
     go : (t : Bool) → broken (moved (ch .before) (ch .after)) ≡ t → broken (moved (ch .before) (ch .after)) ≡ false
     go false e = e

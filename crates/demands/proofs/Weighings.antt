@@ -18,6 +18,7 @@ use Rattle.conditions.specs.Conditions.{difference, net, unsteady}
 use Rattle.conditions.proofs.Words.{unsteady-exactly}
 use Rattle.classes.specs.Classes.{placesOf, placeAt}
 use Rattle.rules.specs.Rules.{table, groundOf}
+use Rattle.steps.specs.declared.Figure.{Figure}
 use Rattle.findings.specs.Listing.{partOf, besideOf, brokenAt, linesFor}
 use Rattle.demands.specs.Weighings.{BreaksWeighing, Unsteady, JudgedByNet}
 
@@ -28,13 +29,13 @@ less-below a b m =
     (λ some. (λ h. omega (arith, some, ltb→lt (a - b) m (h .lt)), λ h. record { lt = lt→ltb (a - b) m (omega (arith, some)) }))
     (λ lost. (λ h. omega (arith, lost), λ h. record { lt = tt }))
 
-module _ (v : Version) (r : Run) (ch : Chosen) where
+module _ (v : Version) (fig : Figure) (r : Run) (ch : Chosen) where
   -- what rule 17 goes by at its place i
-  goes-by : (i : ℕ) → brokenAt r ch (linesFor v r ch) 17 i ≡ broken (unsteady (OneWeighing (weighingOf r i)))
+  goes-by : (i : ℕ) → brokenAt fig r ch (linesFor v r ch) 17 i ≡ broken (unsteady (OneWeighing (weighingOf r i)))
   unfolding partOf besideOf brokenAt table groundOf
   goes-by i = refl
 
-  unsteady-there : (place : ℕ) → BreaksWeighing v r ch place → Unsteady r place
+  unsteady-there : (place : ℕ) → BreaksWeighing v fig r ch place → Unsteady r place
   unfolding placesOf placeAt
   unsteady-there place b =
       let w : Weighing = weighingOf r (b .index) in
@@ -47,7 +48,7 @@ module _ (v : Version) (r : Run) (ch : Chosen) where
         percent = less-below (w .second) (w .tare) (100 * difference w) .1 (judged .1);
       }
 
-  broken-there : (place : ℕ) → Unsteady r place → BreaksWeighing v r ch place
+  broken-there : (place : ℕ) → Unsteady r place → BreaksWeighing v fig r ch place
   unfolding placesOf placeAt
   broken-there place u =
       let w : Weighing = weighingOf r (u .index) in
@@ -62,10 +63,10 @@ module _ (v : Version) (r : Run) (ch : Chosen) where
       }
 
 -- For every run and certificates: rule 17 goes by the difference and by the net, and by the difference alone where the net is negative
-pub judged-by-net : (v : Version) (r : Run) (ch : Chosen) → JudgedByNet v r ch
-judged-by-net v r ch =
+pub judged-by-net : (v : Version) (fig : Figure) (r : Run) (ch : Chosen) → JudgedByNet v fig r ch
+judged-by-net v fig r ch =
     record {
-      both = λ place. (unsteady-there v r ch place, broken-there v r ch place);
+      both = λ place. (unsteady-there v fig r ch place, broken-there v fig r ch place);
       negative = λ i inside below. (units i, enough i inside below);
     }
   where
@@ -74,13 +75,13 @@ judged-by-net v r ch =
     percent w below =
         less-below (w .second) (w .tare) (100 * difference w) .1 (omega (arith, less-below (w .second) (w .tare) 0 .0 below))
 
-    units : (i : ℕ) → BreaksWeighing v r ch (i + 1) → 5 < difference (weighingOf r i)
+    units : (i : ℕ) → BreaksWeighing v fig r ch (i + 1) → 5 < difference (weighingOf r i)
     units i b =
-        let u = unsteady-there v r ch (i + 1) b in
+        let u = unsteady-there v fig r ch (i + 1) b in
         let same : u .index ≡ i = omega (arith, u .there) in
         rw same at (u .units)
 
-    enough : (i : ℕ) → i < r .header .counts .weighings → net (weighingOf r i) <ℤ pos 0 → 5 < difference (weighingOf r i) → BreaksWeighing v r ch (i + 1)
+    enough : (i : ℕ) → i < r .header .counts .weighings → net (weighingOf r i) <ℤ pos 0 → 5 < difference (weighingOf r i) → BreaksWeighing v fig r ch (i + 1)
     enough i inside below apart =
-        broken-there v r ch (i + 1)
+        broken-there v fig r ch (i + 1)
         (record { index = i; inside = inside; there = refl; units = apart; percent = percent (weighingOf r i) below })

@@ -1,4 +1,5 @@
--- The three demands, each over a call to reduce that keeps its promise: what it answered, and every byte afterwards.
+-- The three demands, each over a call to reduce, by a figure or without one, that keeps its promise: what it answered, and every byte
+-- afterwards.
 use Prim.Native.Nat.{ℕ, _-_, _*_, _^_, _≤_, _<_}
 use mathlib.Core.Path.{_≡_}
 use mathlib.Core.Bool.{Bool, true}
@@ -21,18 +22,21 @@ use Rattle.output.specs.declared.Answer.the-variants.{Done, Refused}
 use Rattle.output.specs.Answers.{packed}
 use Rattle.output.specs.Splice.{spliced}
 use Rattle.writing.specs.Bytes.{lineSize, entryBytes, sheetSize, sheetBytes, findingSize, findingBytes, findingsBytes}
-use Rattle.printing.specs.Printing.{printing, printingAnswer}
+use Rattle.printing.specs.Printing.{printingBy, printingAnswer}
 use Rattle.layouts.specs.Outcomes.{roundOutcome, rectangleOutcome, layoutAnswer}
 use Rattle.handing.specs.Handing.{success, answerOf}
 use Rattle.counting.specs.Counting.{countAnswer, numberAnswer}
-use Rattle.runs.specs.Outcomes.{outcome}
+use Rattle.runs.specs.Outcomes.{outcomeBy}
 use Rattle.leverbonnet.specs.Calls.{Reduces}
+use Rattle.steps.specs.declared.Figure.{Figure}
+use Rattle.demands.specs.FigureFile.{Lent, supplied, figureIn, GoodLent}
 use Rattle.demands.specs.ReadingOrder.{numberOf, GoodJob}
 use Rattle.demands.specs.Table.{CallRefused}
 use Rattle.demands.specs.Equations.{equation}
 
--- A call to reduce: the job and the run that it was given, both buffers before and after it, and its answer
+-- A call to reduce: the figure, the job and the run that it was given, both buffers before and after it, and its answer
 pub record Call : Type 0 where
+  pub figure : Lent
   pub job : List ℕ
   pub run : ℕ
   pub linesIn : List ℕ
@@ -41,9 +45,9 @@ pub record Call : Type 0 where
   pub findingsOut : List ℕ
   pub answer : ℕ
 
--- it keeps the promise of leverbonnet_reduce
+-- it keeps the promise of leverbonnet_reduce, or with a figure's file that of leverbonnet_reduce_by_figure
 abbrev pub Promised : Call → Type 0
-Promised c = Reduces (c .job) (c .run) (c .linesIn) (c .findingsIn) (c .linesOut) (c .findingsOut) (c .answer)
+Promised c = Reduces (supplied (c .figure)) (c .job) (c .run) (c .linesIn) (c .findingsIn) (c .linesOut) (c .findingsOut) (c .answer)
 
 -- it succeeds: no refusal's number stands in the high 32 bits
 abbrev pub Succeeds : Call → Type 0
@@ -59,7 +63,7 @@ pub record OnlyRun (s : List ℕ) (run k : ℕ) : Type 0 where
 
 -- a row of the table applies to the call
 abbrev pub RowApplies : Call → ℕ → ℕ → Type 0
-RowApplies c number place = CallRefused (c .job) (c .run) (length (c .linesIn)) (length (c .findingsIn)) number place
+RowApplies c number place = CallRefused (c .figure) (c .job) (c .run) (length (c .linesIn)) (length (c .findingsIn)) number place
 
 -- it is refused with that number and place, and nothing is written
 pub record RefusedWith (c : Call) (number place : ℕ) : Type 0 where
@@ -67,26 +71,27 @@ pub record RefusedWith (c : Call) (number place : ℕ) : Type 0 where
   pub lines : c .linesOut ≡ c .linesIn
   pub findings : c .findingsOut ≡ c .findingsIn
 
--- it reduces run k: the job is good, the outputs suffice, and they begin with the run's lines and findings
+-- it reduces run k: the figure and the job are good, the outputs suffice, and they begin with the run's lines and findings
 pub record ReducesRun (c : Call) (k : ℕ) : Type 0 where
+  pub figure : GoodLent (c .figure)
   pub good : GoodJob (c .job)
   pub run : OnlyRun (c .job) (c .run) k
   pub linesRoom : sheetSize ≤ length (c .linesIn)
-  pub findingsRoom : findingSize * reducedRun (c .job) k .findings .count ≤ length (c .findingsIn)
-  pub answer : c .answer ≡ packed (Done (success (reducedRun (c .job) k .findings .count) (reducedRun (c .job) k .accepted)))
-  pub lines : c .linesOut ≡ spliced (c .linesIn) 0 (sheetBytes (reducedRun (c .job) k .sheet))
-  pub findings : c .findingsOut ≡ spliced (c .findingsIn) 0 (findingsBytes (reducedRun (c .job) k .findings .list) (reducedRun (c .job) k .findings .count))
+  pub findingsRoom : findingSize * reducedRun (figureIn (c .figure)) (c .job) k .findings .count ≤ length (c .findingsIn)
+  pub answer : c .answer ≡ packed (Done (success (reducedRun (figureIn (c .figure)) (c .job) k .findings .count) (reducedRun (figureIn (c .figure)) (c .job) k .accepted)))
+  pub lines : c .linesOut ≡ spliced (c .linesIn) 0 (sheetBytes (reducedRun (figureIn (c .figure)) (c .job) k .sheet))
+  pub findings : c .findingsOut ≡ spliced (c .findingsIn) 0 (findingsBytes (reducedRun (figureIn (c .figure)) (c .job) k .findings .list) (reducedRun (figureIn (c .figure)) (c .job) k .findings .count))
 
 pub data CameTo (c : Call) : Type 0 where
   byRow : (number place : ℕ) → RowApplies c number place → RefusedWith c number place → CameTo c
   toRun : (k : ℕ) → ReducesRun c k → CameTo c
 
--- the answers that the six calls can give, whatever they are given
+-- the answers that the eight calls can give, whatever they are given
 pub data Given : Answer → Type 0 where
-  toReduce : (s : List ℕ) (run lines findings : ℕ) → Given (answerOf (outcome s run lines findings))
+  toReduce : (l : Lent) (s : List ℕ) (run lines findings : ℕ) → Given (answerOf (outcomeBy (supplied l) s run lines findings))
   toRunCount : (s : List ℕ) → Given (countAnswer s)
   toRunNumber : (s : List ℕ) (index : ℕ) → Given (numberAnswer s index)
-  toSheetText : (s : List ℕ) (room : ℕ) → Given (printingAnswer (printing s room))
+  toSheetText : (l : Lent) (s : List ℕ) (room : ℕ) → Given (printingAnswer (printingBy (supplied l) s room))
   toRoundLayout : (points diameter nozzle room : ℕ) → Given (layoutAnswer (roundOutcome points diameter nozzle room))
   toRectLayout : (points first second room : ℕ) → Given (layoutAnswer (rectangleOutcome points first second room))
 
@@ -125,8 +130,8 @@ bytesOfFinding bytes i = take findingSize (drop (findingSize * i) bytes)
 abbrev pub Precedes : Finding → Finding → Type 0
 Precedes a b = (a .rule < b .rule) ⊎ ((a .rule ≡ b .rule) × (a .place < b .place))
 
--- a list holds the findings of a run: in order, each once, exactly those rules that it breaks, and each with its class by the job's version
-pub record FindingsOf (s : List ℕ) (k : ℕ) (list : List Finding) : Type 0 where
+-- a list holds the findings of a run by a figure: in order, each once, exactly those rules that it breaks, and each with its class by the job's version
+pub record FindingsOf (fig : Figure) (s : List ℕ) (k : ℕ) (list : List Finding) : Type 0 where
   pub sorted : (i j : ℕ) → i < j → j < length list → Precedes (getD list i noFinding) (getD list j noFinding)
   pub once :
       (i j : ℕ)
@@ -137,14 +142,14 @@ pub record FindingsOf (s : List ℕ) (k : ℕ) (list : List Finding) : Type 0 wh
       → i ≡ j
   pub exactly :
       (rule place : ℕ)
-      → HasFinding list rule place ↔ Breaks (runOf s k) (chosenIn s k) (linesFor (versionOf s) (runOf s k) (chosenIn s k)) rule place
+      → HasFinding list rule place ↔ Breaks fig (runOf s k) (chosenIn s k) (linesFor (versionOf s) (runOf s k) (chosenIn s k)) rule place
   pub class : (i : ℕ) → i < length list → getD list i noFinding .class ≡ classOf (versionOf s) (getD list i noFinding .rule)
 
 pub record Demand3 (c : Call) : Type 0 where
   pub index : ℕ
   pub run : OnlyRun (c .job) (c .run) index
   pub list : List Finding
-  pub findings : FindingsOf (c .job) index list
+  pub findings : FindingsOf (figureIn (c .figure)) (c .job) index list
   -- the answer is their number, and 65,536 more if the run is accepted; no other count and verdict are that answer
   pub accepted : Bool
   pub answer : c .answer ≡ success (length list) accepted
@@ -177,11 +182,17 @@ pub record SameRun (s t : List ℕ) (run : ℕ) : Type 0 where
   pub version : versionOf s ≡ versionOf t
   pub records : SameRecords s t run
 
--- what the call answers and writes for one of two such jobs, it answers and writes for the other, byte for byte
-abbrev pub SameBytes : (List ℕ → List ℕ → ℕ → Type 0) → Type 0
-SameBytes Such =
-    (s t : List ℕ) (run : ℕ)
+-- both calls are given the same figure's file, or none
+abbrev pub SameFigure : Lent → Lent → Type 0
+SameFigure l m = l ≡ m
+
+-- what the call answers and writes for one of two such jobs with one of two such figures, it answers and writes for the other, byte for
+-- byte
+abbrev pub SameBytes : (Lent → Lent → Type 0) → (List ℕ → List ℕ → ℕ → Type 0) → Type 0
+SameBytes Figures Such =
+    (l m : Lent) (s t : List ℕ) (run : ℕ)
+    → Figures l m
     → Such s t run
     → (linesIn findingsIn linesOut findingsOut : List ℕ) (r : ℕ)
-    → Reduces s run linesIn findingsIn linesOut findingsOut r
-    → Reduces t run linesIn findingsIn linesOut findingsOut r
+    → Reduces (supplied l) s run linesIn findingsIn linesOut findingsOut r
+    → Reduces (supplied m) t run linesIn findingsIn linesOut findingsOut r

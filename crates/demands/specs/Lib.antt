@@ -1,4 +1,5 @@
 -- What the calls have to be trusted for.
+pub mod FigureFile
 pub mod ReadingOrder
 pub mod Table
 pub mod Equations
@@ -10,3 +11,4 @@ pub mod Versions
 pub mod OwnLetter
 pub mod Starred
 pub mod MovedFactor
+pub mod ByFigure

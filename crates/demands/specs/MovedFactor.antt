@@ -13,11 +13,14 @@ use Rattle.choosing.specs.declared.Chosen.{Chosen}
 use Rattle.grounds.specs.Comparing.{apart}
 use Rattle.factors.specs.Factor.{factorOf}
 use Rattle.classes.specs.Classes.{fault, note, classOf}
+use Rattle.steps.specs.declared.Figure.{Figure}
+use Rattle.steps.specs.Steps.{noFigure}
 use Rattle.findings.specs.Listing.{accepted, linesFor, findingsFor, Breaks}
 use Rattle.opening.specs.Opening.{versionOf}
 use Rattle.job.specs.Places.{runOf}
 use Rattle.job.specs.Worked.{movedJob}
 use Rattle.reduction.specs.Reducing.{chosenIn}
+use Rattle.demands.specs.FigureFile.{noFile}
 use Rattle.demands.specs.Demands.{SameRecords}
 use Rattle.demands.specs.Starred.{PrintedAs}
 
@@ -44,17 +47,17 @@ pub record LowerAndNote (ch : Chosen) : Type 0 where
   pub missing : ch .before ≡ Nothing → factorOf One ch ≡ Missing
 
 -- In version 2 a finding of rule 5 is a fault, so that a run which breaks it is void, and Y is always the before factor
-pub record BeforeAndVoid (r : Run) (ch : Chosen) : Type 0 where
+pub record BeforeAndVoid (fig : Figure) (r : Run) (ch : Chosen) : Type 0 where
   pub class : classOf Two 5 ≡ fault
   pub factor : (b : Certificate) → ch .before ≡ Found b → factorOf Two ch ≡ Known (b .first)
   pub missing : ch .before ≡ Nothing → factorOf Two ch ≡ Missing
-  pub void : Breaks r ch (linesFor Two r ch) 5 0 → accepted (findingsFor Two r ch) ≡ true → ⊥
+  pub void : Breaks fig r ch (linesFor Two r ch) 5 0 → accepted (findingsFor Two fig r ch) ≡ true → ⊥
 
--- Two jobs of whatever versions hold the same records, and the run does not break rule 5
+-- Two jobs of whatever versions hold the same records, and the run does not break rule 5, which no figure changes
 pub record SameUnmoved (s t : List ℕ) (run : ℕ) : Type 0 where
   pub records : SameRecords s t run
   pub unmoved :
-      Breaks (runOf s (records .index)) (chosenIn s (records .index)) (linesFor (versionOf s) (runOf s (records .index)) (chosenIn s (records .index))) 5 0
+      Breaks noFigure (runOf s (records .index)) (chosenIn s (records .index)) (linesFor (versionOf s) (runOf s (records .index)) (chosenIn s (records .index))) 5 0
       → ⊥
 
 -- the worked job's lines with the lower factor, 9,499
@@ -65,11 +68,11 @@ lowerLines =
 
 -- in version 1: accepted, with notes of rules 5 and 11 and the lower factor's lines
 abbrev pub Kept : Type 0
-Kept = PrintedAs (movedJob One) 2 65538 lowerLines (5 ∷ 2 ∷ 0 ∷ 0 ∷ 11 ∷ 2 ∷ 1 ∷ 0 ∷ [])
+Kept = PrintedAs noFile (movedJob One) 2 65538 lowerLines (5 ∷ 2 ∷ 0 ∷ 0 ∷ 11 ∷ 2 ∷ 1 ∷ 0 ∷ [])
 
 -- in version 2: void, with a fault of rule 5, the note of rule 11 and the before factor's lines, those of the worked job
 abbrev pub Voided : Type 0
-Voided = PrintedAs (movedJob Two) 2 2 (workedLines .expected) (5 ∷ 1 ∷ 0 ∷ 0 ∷ 11 ∷ 2 ∷ 1 ∷ 0 ∷ [])
+Voided = PrintedAs noFile (movedJob Two) 2 2 (workedLines .expected) (5 ∷ 1 ∷ 0 ∷ 0 ∷ 11 ∷ 2 ∷ 1 ∷ 0 ∷ [])
 
 -- The counter-example: the same records in both versions, another Y, another answer
 pub record AnotherY : Type 0 where

@@ -20,7 +20,8 @@ use Rattle.output.specs.Bytes.{le}
 use Rattle.writing.specs.Bytes.{sheetSize, findingSize}
 use Rattle.output.specs.Answers.{packed}
 use Rattle.handing.specs.Handing.{answerOf, linesAfter, findingsAfter}
-use Rattle.runs.specs.Outcomes.{outcome}
+use Rattle.runs.specs.Outcomes.{outcomeBy}
+use Rattle.demands.specs.FigureFile.{Lent, noFile, supplied}
 
 -- a starred value: numbers worked out beside those of the list, a factor, a line 18, a weighing, the positions of six points, or what a file is read as
 pub data StarredValue : Type 0 where
@@ -59,12 +60,12 @@ abbrev pub presentBytes : List ℕ → List ℕ
 presentBytes [] = []
 presentBytes (v ∷ vs) = (1 ∷ le 8 v) ++ presentBytes vs
 
--- run 7 of a file into buffers that just suffice for so many findings: its answer, its lines, all of them present, and its findings as bytes
-pub record PrintedAs (file : List ℕ) (many result : ℕ) (values bytes : List ℕ) : Type 0 where
-  pub answer : packed (answerOf (outcome file 7 sheetSize (findingSize * many))) ≡ result
-  pub lines : linesAfter (outcome file 7 sheetSize (findingSize * many)) (replicate sheetSize 0) ≡ presentBytes values
-  pub findings : findingsAfter (outcome file 7 sheetSize (findingSize * many)) (replicate (findingSize * many) 0) ≡ bytes
+-- by a figure or none, run 7 of a file into buffers that just suffice for so many findings: its answer, its lines, all of them present, and its findings as bytes
+pub record PrintedAs (l : Lent) (job : List ℕ) (many result : ℕ) (values bytes : List ℕ) : Type 0 where
+  pub answer : packed (answerOf (outcomeBy (supplied l) job 7 sheetSize (findingSize * many))) ≡ result
+  pub lines : linesAfter (outcomeBy (supplied l) job 7 sheetSize (findingSize * many)) (replicate sheetSize 0) ≡ presentBytes values
+  pub findings : findingsAfter (outcomeBy (supplied l) job 7 sheetSize (findingSize * many)) (replicate (findingSize * many) 0) ≡ bytes
 
 -- The worked job, of version 1: accepted with one finding, the twenty lines, and the note of rule 11 at segment 1
 abbrev pub PrintedJob : Type 0
-PrintedJob = PrintedAs (workedJob One) 1 65537 (workedLines .expected) (11 ∷ 2 ∷ 1 ∷ 0 ∷ [])
+PrintedJob = PrintedAs noFile (workedJob One) 1 65537 (workedLines .expected) (11 ∷ 2 ∷ 1 ∷ 0 ∷ [])

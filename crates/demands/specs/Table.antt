@@ -14,6 +14,8 @@ use Rattle.opening.specs.Opening.{versionOf, runCountOf, marked}
 use Rattle.job.specs.Places.{runStart}
 use Rattle.reduction.specs.Reducing.{reducedRun}
 use Rattle.writing.specs.Bytes.{sheetSize, findingSize}
+use Rattle.figures.specs.Figures.{figureRows}
+use Rattle.demands.specs.FigureFile.{Lent, file, figureIn, GoodLent}
 use Rattle.demands.specs.ReadingOrder.{Fixed, fileHeader, oneCertificate, runHeader, numberOf, startOf, sizeOf, rowsOf, Complete, Good, Repeats, totalOfPoints, totalOfSegments, GoodJob, ReachedCertificate, ReachedRun, ReachedSeconds, ReachedEnd, Reached}
 
 -- the first field that is out of its range has that number and place: those before it are good
@@ -61,16 +63,21 @@ pub data FileRefused (s : List ℕ) : ℕ → ℕ → Type 0 where
   -- 8: bytes are left over; first of them
   row8 : ReachedEnd s → runStart s (runCountOf s) < length s → FileRefused s 8 (runStart s (runCountOf s))
 
--- A row applies to a call to reduce: one of the file's, or behind them, where the job is good, 10 and then 9
-pub data CallRefused (s : List ℕ) (run lines findings : ℕ) : ℕ → ℕ → Type 0 where
-  ofFile : {number place : ℕ} → FileRefused s number place → CallRefused s run lines findings number place
+-- A row applies to a call to reduce: the figure's; where that is good, one of the job's; and behind them, where the job is good too, 10
+-- and then 9
+pub data CallRefused (l : Lent) (s : List ℕ) (run lines findings : ℕ) : ℕ → ℕ → Type 0 where
+  -- 14: a figure whose first field in trouble is cut off or not good, or that has bytes left over; the file's length, that field's
+  -- first byte, the first byte left over
+  row14 : (f : List ℕ) → l ≡ file f → {place : ℕ} → FirstBad 14 place (figureRows f) → CallRefused l s run lines findings 14 place
+  ofFile : GoodLent l → {number place : ℕ} → FileRefused s number place → CallRefused l s run lines findings number place
   -- 10: no run of that number; 0
-  row10 : GoodJob s → ((k : ℕ) → k < runCountOf s → numberOf s k ≡ run → ⊥) → CallRefused s run lines findings 10 0
+  row10 : GoodLent l → GoodJob s → ((k : ℕ) → k < runCountOf s → numberOf s k ≡ run → ⊥) → CallRefused l s run lines findings 10 0
   -- 9: a lent output is too short; 0
   row9 :
-      GoodJob s
+      GoodLent l
+      → GoodJob s
       → (k : ℕ)
       → k < runCountOf s
       → numberOf s k ≡ run
-      → (lines < sheetSize) ⊎ (findings < findingSize * reducedRun s k .findings .count)
-      → CallRefused s run lines findings 9 0
+      → (lines < sheetSize) ⊎ (findings < findingSize * reducedRun (figureIn l) s k .findings .count)
+      → CallRefused l s run lines findings 9 0
