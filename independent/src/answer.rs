@@ -14,9 +14,11 @@ pub enum Reason {
     OutputTooShort = 9,
     NoSuchRun = 10,
     LayoutOutOfRange = 11,
+    Figure = 14,
 }
 
-/// A reason and the byte of the job that it is about (0 when it is about none).
+/// A reason and the byte of the job, or of the figure, that it is about (0 when it is
+/// about none).
 #[derive(Clone, Copy, Debug, PartialEq, Eq)]
 pub struct Refusal {
     pub reason: Reason,
@@ -24,7 +26,7 @@ pub struct Refusal {
 }
 
 impl Refusal {
-    /// A place always fits: no refusal lies past the end of the longest job.
+    /// A place always fits: no refusal lies past the end of the longest job or figure.
     pub fn new(reason: Reason, place: usize) -> Self {
         Refusal {
             reason,

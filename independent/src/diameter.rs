@@ -44,8 +44,8 @@ impl Diameter {
     }
 
     /// Whether a disturbance at the distance (0.1 in) is nearer than so many
-    /// half diameters.
-    pub fn nearer_than_halves(self, distance: u16, halves: u64) -> bool {
-        2 * u64::from(distance) * self.denominator < halves * self.numerator
+    /// hundredths of a diameter.
+    pub fn nearer_than(self, distance: u16, hundredths: u16) -> bool {
+        100 * u64::from(distance) * self.denominator < u64::from(hundredths) * self.numerator
     }
 }

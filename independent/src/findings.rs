@@ -1,14 +1,19 @@
 //! The findings of a run, by rule and then by place.
 
 use crate::certificates::Chosen;
-use crate::diameter::{Diameter, GREATEST_SMALL_DIAMETER, LEAST_DIAMETER};
-use crate::job::{Run, Shape, Version, Weighing, WeighingKind};
-use crate::layout::grid;
+use crate::diameter::{Diameter, LEAST_DIAMETER};
+use crate::figure::Figure;
+use crate::job::{Run, Version, Weighing, WeighingKind};
 use crate::leak;
 use crate::lines::Lines;
+use crate::points;
 
 /// The place of a finding that is about the whole run.
 const WHOLE_RUN: u16 = 0;
+
+/// The nearest that a disturbance may be, 0.01 diameter.
+const NEAREST_NEXT: u16 = 50;
+const NEAREST_LAST: u16 = 200;
 
 /// The shortest time at a point, in seconds.
 const SHORTEST_POINT: u16 = 120;
@@ -56,13 +61,19 @@ fn class_of(version: Version, rule: u8) -> Class {
 /// Everything found about the run, in list order: each rule is asked once, in
 /// turn, and a rule about points, segments or weighings goes through them in
 /// file order.
-pub fn of(version: Version, run: &Run, chosen: &Chosen, lines: &Lines) -> Vec<Finding> {
+pub fn of(
+    version: Version,
+    run: &Run,
+    figure: Option<&Figure>,
+    chosen: &Chosen,
+    lines: &Lines,
+) -> Vec<Finding> {
     let mut list = List {
         version,
         found: Vec::new(),
     };
     certificate_findings(&mut list, chosen);
-    stack_findings(&mut list, run);
+    stack_findings(&mut list, run, figure);
     sampling_findings(&mut list, run, lines);
     volume_findings(&mut list, lines);
     weighing_findings(&mut list, run, lines);
@@ -109,36 +120,15 @@ fn is_out_of_round(diameters: [u16; 3]) -> bool {
     a.max(b).max(c) - a.min(b).min(c) > WIDEST_NOZZLE_SPREAD
 }
 
-fn stack_findings(list: &mut List, run: &Run) {
+fn stack_findings(list: &mut List, run: &Run, figure: Option<&Figure>) {
     let diameter = Diameter::of(run);
     list.whole_run(7, diameter.is_below(LEAST_DIAMETER));
     list.whole_run(
         8,
-        diameter.nearer_than_halves(run.to_next_disturbance, 1)
-            || diameter.nearer_than_halves(run.from_last_disturbance, 4),
+        diameter.nearer_than(run.to_next_disturbance, NEAREST_NEXT)
+            || diameter.nearer_than(run.from_last_disturbance, NEAREST_LAST),
     );
-    list.whole_run(9, !points_suffice(run, diameter));
-}
-
-/// Whether the number of points is one the shape allows, and enough for the
-/// stack: few with a long straight stretch, more without.
-fn points_suffice(run: &Run, diameter: Diameter) -> bool {
-    let straight = !diameter.nearer_than_halves(run.from_last_disturbance, 16)
-        && !diameter.nearer_than_halves(run.to_next_disturbance, 4);
-    let large = diameter.is_above(GREATEST_SMALL_DIAMETER);
-    let least = match (straight, large, run.shape) {
-        (true, true, _) => 12,
-        (true, false, Shape::Round) => 8,
-        (true, false, Shape::Rectangular) => 9,
-        (false, _, Shape::Round) => 24,
-        (false, _, Shape::Rectangular) => 25,
-    };
-    let points = run.points.len() as u16;
-    let allowed = match run.shape {
-        Shape::Round => points % 4 == 0,
-        Shape::Rectangular => grid(points).is_some(),
-    };
-    allowed && points >= least
+    list.whole_run(9, !points::suffice(run, figure));
 }
 
 fn sampling_findings(list: &mut List, run: &Run, lines: &Lines) {

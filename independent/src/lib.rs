@@ -1,4 +1,4 @@
-//! The independent program: the same six calls and the same printed sheet as
+//! The independent program: the same eight calls and the same printed sheet as
 //! the proved library, written from the rules alone. It shares nothing with the
 //! library, so that where the two agree neither can be repeating the other's slip.
 //!
@@ -12,11 +12,13 @@ mod answer;
 mod arithmetic;
 mod certificates;
 mod diameter;
+pub mod figure;
 mod findings;
 pub mod job;
 mod layout;
 mod leak;
 mod lines;
+mod points;
 mod print;
 mod read;
 pub mod samples;
@@ -27,11 +29,14 @@ pub use certificates::Chosen;
 pub use findings::{Class, Finding};
 pub use layout::{rect_distances, round_distances};
 pub use lines::{Isokinetic, Lines, LINE_COUNT};
-pub use print::sheet;
+pub use points::{is_allowed, is_undisturbed, least_points};
+pub use points::{UNDISTURBED_FROM_LAST, UNDISTURBED_TO_NEXT};
+pub use print::{sheet, sheet_by_figure};
 pub use read::read;
 pub use worked::{work, Worked};
 
 use answer::answered;
+use read::read_both;
 
 /// What `reduce` adds to the number of findings when the run is accepted.
 pub const ACCEPTED: u32 = 65_536;
@@ -40,22 +45,34 @@ pub const ACCEPTED: u32 = 65_536;
 /// `findings` (4 bytes each). Succeeds with the number of findings, plus
 /// [`ACCEPTED`] when none of them is a fault.
 pub fn reduce(job: &[u8], run_number: u16, lines: &mut [u8], findings: &mut [u8]) -> u64 {
-    answered(reduced(job, run_number, lines, findings))
+    answered(reduced(None, job, run_number, lines, findings))
+}
+
+/// The same by a figure, which is read before the job and may be refused with 14.
+pub fn reduce_by_figure(
+    figure: &[u8],
+    job: &[u8],
+    run_number: u16,
+    lines: &mut [u8],
+    findings: &mut [u8],
+) -> u64 {
+    answered(reduced(Some(figure), job, run_number, lines, findings))
 }
 
 fn reduced(
+    figure: Option<&[u8]>,
     job: &[u8],
     run_number: u16,
     lines: &mut [u8],
     findings: &mut [u8],
 ) -> Result<u32, Refusal> {
-    let job = read(job)?;
+    let (figure, job) = read_both(figure, job)?;
     let run = job
         .runs
         .iter()
         .find(|run| run.number == run_number)
         .ok_or(Refusal::new(Reason::NoSuchRun, 0))?;
-    let worked = work(&job, run);
+    let worked = work(figure.as_ref(), &job, run);
     worked.write(lines, findings)?;
     let accepted = if worked.accepted() { ACCEPTED } else { 0 };
     Ok(worked.findings.len() as u32 + accepted)
@@ -98,5 +115,10 @@ pub fn rect_layout(points: u16, first: u16, second: u16, out: &mut [u8]) -> u64 
 /// Writes the printed sheets of a job that is read. Succeeds with the number of
 /// characters written.
 pub fn sheet_text(job: &[u8], out: &mut [u8]) -> u64 {
-    answered(read(job).and_then(|job| print::write(&job, out)))
+    answered(print::write(None, job, out))
+}
+
+/// The same by a figure, which is read before the job and may be refused with 14.
+pub fn sheet_text_by_figure(figure: &[u8], job: &[u8], out: &mut [u8]) -> u64 {
+    answered(print::write(Some(figure), job, out))
 }

@@ -2,14 +2,22 @@
 
 use crate::answer::{Reason, Refusal};
 use crate::findings::{Class, Finding};
-use crate::job::Job;
-use crate::read::read;
+use crate::read::read_both;
 use crate::worked::{work, Worked};
 
 /// All the job's runs in file order, or the one line of its refusal.
 pub fn sheet(job: &[u8]) -> Vec<u8> {
-    let text = match read(job) {
-        Ok(job) => runs(&job),
+    printed(None, job)
+}
+
+/// The same by a figure, which may be what is refused.
+pub fn sheet_by_figure(figure: &[u8], job: &[u8]) -> Vec<u8> {
+    printed(Some(figure), job)
+}
+
+fn printed(figure: Option<&[u8]>, job: &[u8]) -> Vec<u8> {
+    let text = match runs(figure, job) {
+        Ok(text) => text,
         Err(refusal) => format!("REFUSED {} {}\n", refusal.number(), refusal.place),
     };
     text.into_bytes()
@@ -17,8 +25,8 @@ pub fn sheet(job: &[u8]) -> Vec<u8> {
 
 /// Writes the text of all runs and answers how many characters it has; none when
 /// the output is too short for all of them.
-pub fn write(job: &Job, out: &mut [u8]) -> Result<u32, Refusal> {
-    let text = runs(job);
+pub fn write(figure: Option<&[u8]>, job: &[u8], out: &mut [u8]) -> Result<u32, Refusal> {
+    let text = runs(figure, job)?;
     match out.get_mut(..text.len()) {
         Some(front) => front.copy_from_slice(text.as_bytes()),
         None => return Err(Refusal::new(Reason::OutputTooShort, 0)),
@@ -26,11 +34,12 @@ pub fn write(job: &Job, out: &mut [u8]) -> Result<u32, Refusal> {
     Ok(text.len() as u32)
 }
 
-fn runs(job: &Job) -> String {
-    job.runs
-        .iter()
-        .map(|run| run_text(run.number, &work(job, run)))
-        .collect()
+fn runs(figure: Option<&[u8]>, job: &[u8]) -> Result<String, Refusal> {
+    let (figure, job) = read_both(figure, job)?;
+    let runs = job.runs.iter();
+    Ok(runs
+        .map(|run| run_text(run.number, &work(figure.as_ref(), &job, run)))
+        .collect())
 }
 
 fn run_text(number: u16, worked: &Worked) -> String {

@@ -1,8 +1,11 @@
 //! Jobs worth showing: the worked job of docs/RULES.md, one of several runs, one at the
 //! limits of the percent isokinetic, one at those of a weighing, one with a rebuilt meter
-//! and the same without its letter, one with factors that moved in each version, one that
-//! is refused, and the longest that a file of each version can hold.
+//! and the same without its letter, one with factors that moved in each version, one with
+//! fewer points than the house rule wants and one with just as many, one that is refused,
+//! and the longest that a file of each version can hold. And a figure, whose steps are
+//! made up and stand for nobody's.
 
+use crate::figure::{Figure, Step};
 use crate::job::*;
 
 const ABC_METER: Instrument = instrument(b"ABC", 10_442);
@@ -23,8 +26,14 @@ const fn instrument(maker: &[u8; 3], serial: u32) -> Instrument {
     }
 }
 
-/// The samples that stand among the examples with their sheets, by name.
-pub const WITH_SHEETS: [(&str, fn() -> Job); 9] = [
+/// A job by its name among the examples.
+pub type Named = (&'static str, fn() -> Job);
+
+const FEWER_POINTS: Named = ("fewer-points", fewer_points);
+const MORE_POINTS: Named = ("more-points", more_points);
+
+/// The samples that stand among the examples with their sheets.
+pub const WITH_SHEETS: [Named; 11] = [
     ("worked", worked),
     ("several-runs", several_runs),
     ("percent-limits", percent_limits),
@@ -33,14 +42,22 @@ pub const WITH_SHEETS: [(&str, fn() -> Job); 9] = [
     ("rebuilt-meter-no-letter", rebuilt_meter_no_letter),
     ("moved-factor", moved_factor),
     ("moved-factor-version-2", moved_factor_version_2),
+    FEWER_POINTS,
+    MORE_POINTS,
     ("refused", refused),
 ];
 
 /// Those that stand there without.
-pub const WITHOUT: [(&str, fn() -> Job); 2] = [
+pub const WITHOUT: [Named; 2] = [
     ("longest", longest),
     ("longest-version-2", longest_version_2),
 ];
+
+/// A figure by its name there, and the samples whose sheets by it stand in the folder of
+/// that name.
+pub type NamedFigure = (&'static str, fn() -> Figure, [Named; 2]);
+
+pub const FIGURES: [NamedFigure; 1] = [("made-up", made_up, [FEWER_POINTS, MORE_POINTS])];
 
 /// The job whose whole sheet the rules print: one accepted run with one note.
 pub fn worked() -> Job {
@@ -418,6 +435,77 @@ pub fn moved_factor_version_2() -> Job {
         version: Version::Two,
         ..moved_factor()
     }
+}
+
+/// Some of its numbers of points are not allowed for their shape, and are raised.
+pub fn made_up() -> Figure {
+    Figure {
+        from_last: vec![
+            step(0, 40, 42),
+            step(300, 30, 30),
+            step(500, 16, 20),
+            step(700, 12, 12),
+        ],
+        to_next: vec![step(0, 36, 36), step(100, 14, 18), step(150, 8, 9)],
+    }
+}
+
+fn step(least_distance: u16, round: u8, rectangular: u8) -> Step {
+    Step {
+        least_distance,
+        round,
+        rectangular,
+    }
+}
+
+/// Two runs with fewer points than the house rule wants, and as many as `made_up` asks
+/// for: 16 of a round stack by the last disturbance, and 20, raised from 18, of a
+/// rectangular one by the next.
+pub fn fewer_points() -> Job {
+    let mut job = worked();
+    job.runs = vec![
+        traversed(7, Shape::Round, [300, 1_440], 16),
+        traversed(8, Shape::Rectangular, [300, 1_800], 20),
+    ];
+    job
+}
+
+/// Two runs with as many points as the house rule wants, and fewer than `made_up` asks
+/// for: 36 of a round stack by the next disturbance, and 42 of a rectangular one by the
+/// last.
+pub fn more_points() -> Job {
+    let mut job = worked();
+    job.runs = vec![
+        traversed(7, Shape::Round, [180, 1_920], 24),
+        traversed(8, Shape::Rectangular, [300, 600], 25),
+    ];
+    job
+}
+
+/// The worked run, tight, in a stack of that shape and of 24 in, with the next and the
+/// last disturbance at those distances, and its time given to so many points.
+fn traversed(number: u16, shape: Shape, [next, last]: [u16; 2], points: u16) -> Run {
+    let mut run = Run {
+        number,
+        shape,
+        sides: match shape {
+            Shape::Round => [240, 0],
+            Shape::Rectangular => [200, 300],
+        },
+        to_next_disturbance: next,
+        from_last_disturbance: last,
+        ..worked_run()
+    };
+    run.segments[0].leak = 0;
+    let seconds = run.segments[0].seconds / points;
+    run.points = vec![
+        Point {
+            seconds,
+            ..run.points[0]
+        };
+        usize::from(points)
+    ];
+    run
 }
 
 /// Refused with 5: the third point's stack temperature is -40.1 F.

@@ -2,6 +2,7 @@
 
 use crate::answer::{Reason, Refusal};
 use crate::certificates::Chosen;
+use crate::figure::Figure;
 use crate::findings::{self, Class, Finding};
 use crate::job::{Job, Run};
 use crate::lines::{Lines, LINE_COUNT};
@@ -17,11 +18,11 @@ pub struct Worked {
     pub findings: Vec<Finding>,
 }
 
-/// Works out a run of the job.
-pub fn work(job: &Job, run: &Run) -> Worked {
+/// Works out a run of the job, by a figure if there is one.
+pub fn work(figure: Option<&Figure>, job: &Job, run: &Run) -> Worked {
     let chosen = Chosen::for_run(run, &job.certificates);
     let lines = Lines::of(job.version, run, &chosen);
-    let findings = findings::of(job.version, run, &chosen, &lines);
+    let findings = findings::of(job.version, run, figure, &chosen, &lines);
     Worked { lines, findings }
 }
 

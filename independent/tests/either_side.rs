@@ -6,7 +6,7 @@ use independent::{samples, work, Class, Finding, Worked};
 fn worked_with(change: impl Fn(&mut Job)) -> Worked {
     let mut job = samples::worked();
     change(&mut job);
-    work(&job, &job.runs[0])
+    work(None, &job, &job.runs[0])
 }
 
 fn run_with(change: impl Fn(&mut Run)) -> Worked {
@@ -54,7 +54,7 @@ fn leaks_drawing_more_than_was_metered_leave_nothing() {
 #[test]
 fn the_least_dry_volume_is_not_0() {
     let job = samples::thinnest();
-    let worked = work(&job, &job.runs[0]);
+    let worked = work(None, &job, &job.runs[0]);
     let lines: Vec<_> = (3..=6).map(|line| worked.lines.line(line)).collect();
     // 1764·1·9000·200000/(10^9·6100) is 0.52.
     assert_eq!(lines, [1, 200_000, 6_100, 1].map(Some));
@@ -130,7 +130,7 @@ fn judged(worked: &Worked) -> (Option<i64>, bool, bool) {
 fn isokinetic_limits() {
     let job = samples::percent_limits();
     let runs = job.runs.iter();
-    let runs: Vec<_> = runs.map(|run| judged(&work(&job, run))).collect();
+    let runs: Vec<_> = runs.map(|run| judged(&work(None, &job, run))).collect();
     assert_eq!(
         runs,
         [
@@ -311,7 +311,7 @@ fn final_weights_about_one_percent_of_the_net_apart() {
 fn weighing_limits() {
     let job = samples::weighing_limits();
     let runs = job.runs.iter();
-    let found: Vec<_> = runs.map(|run| work(&job, run).findings).collect();
+    let found: Vec<_> = runs.map(|run| work(None, &job, run).findings).collect();
     let unsteady = [Finding {
         rule: 17,
         class: Class::Fault,

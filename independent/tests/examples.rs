@@ -3,7 +3,7 @@
 use std::fs;
 use std::path::Path;
 
-use independent::{samples, sheet};
+use independent::{samples, sheet, sheet_by_figure};
 
 fn example(file: &str) -> Vec<u8> {
     let folder = Path::new(concat!(env!("CARGO_MANIFEST_DIR"), "/../examples"));
@@ -24,5 +24,19 @@ fn every_sheet_is_current() {
         let file = format!("{name}.txt");
         let text = sheet(&sample().bytes());
         assert!(text == example(&file), "{file} is out of date");
+    }
+}
+
+#[test]
+fn every_figure_and_every_sheet_by_it_is_current() {
+    for (name, figure, jobs) in samples::FIGURES {
+        let figure = figure().bytes();
+        let file = format!("{name}.fig");
+        assert!(figure == example(&file), "{file} is out of date");
+        for (job, sample) in jobs {
+            let file = format!("{name}/{job}.txt");
+            let text = sheet_by_figure(&figure, &sample().bytes());
+            assert!(text == example(&file), "{file} is out of date");
+        }
     }
 }

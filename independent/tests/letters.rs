@@ -145,7 +145,7 @@ fn missing(used: u8, certified: u8, by: fn(&mut Run) -> &mut Instrument) -> Vec<
         instrument.letter = certified;
     }
     by(&mut job.runs[0]).letter = used;
-    let findings = work(&job, &job.runs[0]).findings.into_iter();
+    let findings = work(None, &job, &job.runs[0]).findings.into_iter();
     findings
         .map(|finding| finding.rule)
         .filter(|rule| (1..=4).contains(rule))
@@ -251,7 +251,7 @@ fn without_letters(mut job: Job) -> Job {
 /// Whether each run of the job stands, and its line 6.
 fn verdicts(job: &Job) -> Vec<(bool, Option<i64>)> {
     let runs = job.runs.iter();
-    runs.map(|run| work(job, run))
+    runs.map(|run| work(None, job, run))
         .map(|worked| (worked.accepted(), worked.lines.line(6)))
         .collect()
 }

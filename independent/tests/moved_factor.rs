@@ -32,7 +32,7 @@ fn in_version_1_it_is_a_note_and_the_lower_factor_counts() {
             "NOTE 11 1",
         ]
     );
-    let [steady, risen, fallen] = [0, 1, 2].map(|k| work(&job, &job.runs[k]).lines);
+    let [steady, risen, fallen] = [0, 1, 2].map(|k| work(None, &job, &job.runs[k]).lines);
     assert_eq!(risen, steady);
     let changed: Vec<usize> = (1..=20)
         .filter(|&line| fallen.line(line) != steady.line(line))
@@ -59,6 +59,6 @@ fn in_version_2_it_is_a_fault_and_the_before_factor_counts() {
             "NOTE 11 1",
         ]
     );
-    let [steady, risen, fallen] = [0, 1, 2].map(|k| work(&job, &job.runs[k]).lines);
+    let [steady, risen, fallen] = [0, 1, 2].map(|k| work(None, &job, &job.runs[k]).lines);
     assert_eq!([risen, fallen], [steady.clone(), steady]);
 }

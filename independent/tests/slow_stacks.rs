@@ -56,7 +56,7 @@ fn lines_at(head: u16) -> Lines {
     let mut job = samples::worked();
     let points = job.runs[0].points.iter_mut();
     points.for_each(|p| p.velocity_head = head);
-    work(&job, &job.runs[0]).lines
+    work(None, &job, &job.runs[0]).lines
 }
 
 /// Line 15 from a root in the fourth place, over 10^10, as it was.

@@ -1,10 +1,10 @@
-//! Writes the job files of `examples/` and the sheets expected of them.
+//! Writes the job files and figures of `examples/` and the sheets expected of them.
 
 use std::fs;
 use std::io;
 use std::path::Path;
 
-use independent::{samples, sheet};
+use independent::{samples, sheet, sheet_by_figure};
 
 fn main() -> io::Result<()> {
     let folder = Path::new(concat!(env!("CARGO_MANIFEST_DIR"), "/../examples"));
@@ -16,6 +16,16 @@ fn main() -> io::Result<()> {
     }
     for (name, sample) in samples::WITHOUT {
         fs::write(folder.join(format!("{name}.job")), sample().bytes())?;
+    }
+    for (name, figure, jobs) in samples::FIGURES {
+        let figure = figure().bytes();
+        let by_figure = folder.join(name);
+        fs::create_dir_all(&by_figure)?;
+        for (name, sample) in jobs {
+            let text = sheet_by_figure(&figure, &sample().bytes());
+            fs::write(by_figure.join(format!("{name}.txt")), text)?;
+        }
+        fs::write(folder.join(format!("{name}.fig")), figure)?;
     }
     Ok(())
 }
