@@ -1,6 +1,7 @@
 /*
  * Tries the calls and the words at their edges: layouts, NULL with length 0, versions
- * and numbers that there are not, texts that are cut off. The job on standard input
+ * and numbers that there are not, figures and outputs that are too short, texts that
+ * are cut off. The job on standard input
  * is examples/several-runs.job, whose run 1 has no finding.
  *
  * Status 0: all is as it must be; 1: something is not, which is told.
@@ -15,6 +16,11 @@
 
 static uint8_t job[LEVERBONNET_JOB_BYTES_MOST + 1];
 static size_t job_len;
+
+/* A figure of one step in each list, which asks for the house rule's own 24 and 25 points at every distance; and a byte
+ * too many. */
+static const uint8_t figure[16] = {'F', 'I', 'G', 1, 0, 1, 0, 0, 24, 25, 1, 0, 0, 24, 25, 0};
+static const size_t figure_len = sizeof figure - 1;
 static int troubles;
 
 static void must(int holds, const char *what)
@@ -67,6 +73,92 @@ static void no_job(void)
     MUST(leverbonnet_run_count(NULL, 0) == REFUSED(1, 0));
     MUST(leverbonnet_run_number(NULL, 0, 0) == REFUSED(1, 0));
     MUST(leverbonnet_sheet_text(NULL, 0, NULL, 0) == REFUSED(1, 0));
+}
+
+/* Of length 0 any buffer may be NULL, and the figure is judged first. */
+static void no_figure_or_no_job(void)
+{
+    MUST(leverbonnet_reduce_by_figure(NULL, 0, NULL, 0, 1, NULL, 0, NULL, 0) == REFUSED(14, 0));
+    MUST(leverbonnet_reduce_by_figure(NULL, 0, job, job_len, 998, NULL, 0, NULL, 0) == REFUSED(14, 0));
+    MUST(leverbonnet_reduce_by_figure(figure, figure_len, NULL, 0, 1, NULL, 0, NULL, 0) == REFUSED(1, 0));
+    MUST(leverbonnet_sheet_text_by_figure(NULL, 0, NULL, 0, NULL, 0) == REFUSED(14, 0));
+    MUST(leverbonnet_sheet_text_by_figure(NULL, 0, job, job_len, NULL, 0) == REFUSED(14, 0));
+    MUST(leverbonnet_sheet_text_by_figure(figure, figure_len, NULL, 0, NULL, 0) == REFUSED(1, 0));
+}
+
+/* A figure that ends early is refused at its end, one that goes on at the first byte too many. */
+static void figures_cut_short(void)
+{
+    size_t length;
+    for (length = 0; length < figure_len; length++)
+        MUST(leverbonnet_sheet_text_by_figure(figure, length, job, job_len, NULL, 0) == REFUSED(14, length));
+    MUST(leverbonnet_sheet_text_by_figure(figure, figure_len, job, job_len, NULL, 0) == REFUSED(9, 0));
+    MUST(leverbonnet_sheet_text_by_figure(figure, figure_len + 1, job, job_len, NULL, 0) == REFUSED(14, figure_len));
+}
+
+/* A field in trouble is told at its first byte, also where the figure ends behind it. */
+static void figures_in_trouble(void)
+{
+    static const struct {
+        size_t place, end;
+        uint8_t value;
+    } changes[] = {
+        {0, 3, 'X'}, {3, 5, 2}, {5, 6, 0},   {5, 6, 17},   {8, 9, 0},    {8, 9, 49},
+        {9, 10, 0},  {9, 10, 50}, {10, 11, 0}, {10, 11, 17}, {13, 14, 49}, {14, 15, 50},
+    };
+    size_t k;
+    for (k = 0; k < sizeof changes / sizeof changes[0]; k++) {
+        uint8_t changed[sizeof figure];
+        uint64_t refused = REFUSED(14, changes[k].place);
+        memcpy(changed, figure, sizeof figure);
+        changed[changes[k].place] = changes[k].value;
+        MUST(leverbonnet_sheet_text_by_figure(changed, figure_len, NULL, 0, NULL, 0) == refused);
+        MUST(leverbonnet_sheet_text_by_figure(changed, changes[k].end, NULL, 0, NULL, 0) == refused);
+        MUST(leverbonnet_reduce_by_figure(changed, figure_len, job, job_len, 1, NULL, 0, NULL, 0) == refused);
+    }
+}
+
+/* Every run comes to the same by a figure that asks for what the house rule does. */
+static void same_by_figure(void)
+{
+    static uint8_t text[LEVERBONNET_TEXT_BYTES_MOST], by_figure[LEVERBONNET_TEXT_BYTES_MOST];
+    uint64_t length = leverbonnet_sheet_text(job, job_len, text, sizeof text);
+    MUST(LEVERBONNET_REFUSAL(length) == 0);
+    MUST(leverbonnet_sheet_text_by_figure(figure, figure_len, job, job_len, by_figure, (size_t)length) == length);
+    MUST(memcmp(text, by_figure, (size_t)length) == 0);
+    memset(by_figure, 7, sizeof by_figure);
+    MUST(leverbonnet_sheet_text_by_figure(figure, figure_len, job, job_len, by_figure, (size_t)length - 1) ==
+         REFUSED(9, 0));
+    MUST(by_figure[0] == 7 && memcmp(by_figure, by_figure + 1, sizeof by_figure - 1) == 0);
+}
+
+/* Run 2 has two findings: exact room suffices, a byte less does not, and a refusal changes no byte. */
+static void outputs_by_figure(void)
+{
+    uint8_t lines[LEVERBONNET_LINES_BYTES + 1], findings[2 * LEVERBONNET_FINDING_BYTES + 1];
+    uint8_t same_lines[LEVERBONNET_LINES_BYTES], same_findings[2 * LEVERBONNET_FINDING_BYTES];
+    size_t few_lines = sizeof same_lines - 1, few_findings = sizeof same_findings - 1;
+    uint64_t answer = leverbonnet_reduce(job, job_len, 2, same_lines, sizeof same_lines, same_findings,
+                                         sizeof same_findings);
+    MUST(answer == LEVERBONNET_ACCEPTED + 2);
+    memset(lines, 7, sizeof lines);
+    memset(findings, 7, sizeof findings);
+    MUST(leverbonnet_reduce_by_figure(figure, figure_len, job, job_len, 2, lines, few_lines, findings,
+                                      sizeof findings) == REFUSED(9, 0));
+    MUST(leverbonnet_reduce_by_figure(figure, figure_len, job, job_len, 2, lines, sizeof lines, findings,
+                                      few_findings) == REFUSED(9, 0));
+    MUST(leverbonnet_reduce_by_figure(figure, figure_len, job, job_len, 998, lines, few_lines, findings,
+                                      sizeof findings) == REFUSED(10, 0));
+    MUST(leverbonnet_reduce_by_figure(figure, figure_len - 1, job, job_len, 2, lines, sizeof lines, findings,
+                                      sizeof findings) == REFUSED(14, figure_len - 1));
+    MUST(lines[0] == 7 && memcmp(lines, lines + 1, sizeof lines - 1) == 0);
+    MUST(findings[0] == 7 && memcmp(findings, findings + 1, sizeof findings - 1) == 0);
+    MUST(leverbonnet_reduce_by_figure(figure, figure_len, job, job_len, 2, lines, sizeof lines, findings,
+                                      sizeof findings) == answer);
+    MUST(memcmp(lines, same_lines, sizeof same_lines) == 0 && lines[sizeof same_lines] == 7);
+    MUST(memcmp(findings, same_findings, sizeof same_findings) == 0 && findings[sizeof same_findings] == 7);
+    MUST(leverbonnet_reduce_by_figure(figure, figure_len, job, job_len, 2, lines, sizeof same_lines, findings,
+                                      sizeof same_findings) == answer);
 }
 
 /* A header of version 1 or 2 is good, and its run is missing; any other version is refused for itself. */
@@ -175,7 +267,13 @@ static void refusals_in_words(void)
 {
     refusal_must_read(REFUSED(3, 3), "refusal 3 at byte 3: the version is neither 1 nor 2");
     refusal_must_read(REFUSED(5, 167), "refusal 5 at byte 167: a field is out of its range");
+    refusal_must_read(REFUSED(8, 265), "refusal 8 at byte 265: bytes are left over behind the last run");
     refusal_must_read(REFUSED(9, 0), "refusal 9: a lent output is too short");
+    refusal_must_read(REFUSED(11, 0), "refusal 11: the layout is outside its ranges");
+    refusal_must_read(REFUSED(14, 5),
+                      "refusal 14 at byte 5 of the figure: the figure ends early, has a field out of range or order, or "
+                      "has bytes left over");
+    refusal_must_read(REFUSED(15, 5), "refusal 15: no refusal has that number");
     refusal_must_read(REFUSED(99, 0), "refusal 99: no refusal has that number");
 }
 
@@ -221,6 +319,11 @@ int main(void)
     round_layouts();
     rectangular_layouts();
     no_job();
+    no_figure_or_no_job();
+    figures_cut_short();
+    figures_in_trouble();
+    same_by_figure();
+    outputs_by_figure();
     versions();
     runs_cut_short();
     no_output();

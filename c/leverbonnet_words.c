@@ -9,8 +9,8 @@
 #include <inttypes.h>
 #include <stdio.h>
 
-/* The first last_refusal_of_file refusals are about a byte of the job. */
-enum { line_count = 20, last_refusal_of_file = 8, note_class = 2 };
+/* Refusals up to last_refusal_of_job are about a byte of the job, refusal_of_figure about one of the figure. */
+enum { line_count = 20, last_refusal_of_job = 8, refusal_of_figure = 14, note_class = 2 };
 
 /* Line 1 first: its name, its unit, its decimals. */
 static const struct {
@@ -93,6 +93,7 @@ static const struct {
     {9, "a lent output is too short"},
     {10, "the job has no run of that number"},
     {11, "the layout is outside its ranges"},
+    {14, "the figure ends early, has a field out of range or order, or has bytes left over"},
 };
 
 #define ROWS(table) (sizeof(table) / sizeof(table)[0])
@@ -228,8 +229,10 @@ int leverbonnet_finding_words(leverbonnet_finding finding, char *out, size_t out
 int leverbonnet_refusal_words(uint64_t answer, char *out, size_t out_len)
 {
     unsigned number = LEVERBONNET_REFUSAL(answer);
+    unsigned place = LEVERBONNET_VALUE(answer);
     const char *clause = leverbonnet_refusal_clause(number);
-    if (number > last_refusal_of_file)
+    const char *file = number == refusal_of_figure ? " of the figure" : "";
+    if (number > last_refusal_of_job && number != refusal_of_figure)
         return snprintf(out, out_len, "refusal %u: %s", number, clause);
-    return snprintf(out, out_len, "refusal %u at byte %u: %s", number, (unsigned)LEVERBONNET_VALUE(answer), clause);
+    return snprintf(out, out_len, "refusal %u at byte %u%s: %s", number, place, file, clause);
 }

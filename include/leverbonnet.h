@@ -1,5 +1,5 @@
 /*
- * leverbonnet.h - the six calls of the proved library.
+ * leverbonnet.h - the eight calls of the proved library.
  *
  * What they read and write is described byte by byte in docs/RULES.md. What they
  * write can be taken apart and said in words with leverbonnet_words.h.
@@ -11,15 +11,21 @@
  * version 1, with the lower of the two factors as Y, and a fault in version 2, with
  * the earlier one. Nothing else of a run goes by the version.
  *
+ * A figure is a file of its own, an agency's reading of figure 1-1 as steps: how many
+ * points it asks for at which distances from the last disturbance and to the next.
+ * The two calls by a figure take its number of points in place of the house rule's 24
+ * and 25 of rule 9; the 12, 8 and 9 points that suffice far from disturbances stay,
+ * and so does all else. The other calls know no figure.
+ *
  * Every call answers one uint64_t:
  *
  *     high 32 bits   0 for success, else the number of the refusal
  *     low 32 bits    what the call gives on success, else the refusal's place,
- *                    a byte of the job counted from 0
+ *                    a byte of the job counted from 0, or for 14 of the figure
  *
  * A buffer is lent as a pointer and its length in bytes, and no pointer is
- * kept. Lent outputs must not overlap each other or the job. A length may be
- * 0; the pointer is then not followed, and may be NULL. On success only the
+ * kept. Lent outputs must not overlap each other, the job or the figure. A length
+ * may be 0; the pointer is then not followed, and may be NULL. On success only the
  * bytes described below are written and every lent byte beyond them stays as
  * it was. On a refusal no lent byte changes at all.
  *
@@ -43,10 +49,15 @@
  *      9  a lent output is too short                     place: 0
  *     10  the job has no such run                        place: 0
  *     11  a layout is outside its ranges                 place: 0
+ *     14  the figure ends before a field is complete,    place: figure_len
+ *         has a field that is out of its range, a
+ *         distance that does not rise or points that do, place: its first byte
+ *         or has bytes left over                         place: first of them
  *
  * A job is judged from its front and the first trouble met is the answer; 10
- * and then 9 come only once the whole job was found good. A layout answers 11
- * before 9. All outputs are little-endian.
+ * and then 9 come only once the whole job was found good. A figure is judged so
+ * too, field by field, before the job is read: 14 comes before every other number.
+ * A layout answers 11 before 9. All outputs are little-endian.
  */
 
 #ifndef LEVERBONNET_H
@@ -78,6 +89,10 @@ extern "C" {
  * byte changes an answer. */
 #define LEVERBONNET_JOB_BYTES_MOST 17273
 
+/* The longest figure. Of a longer file nothing past the next byte changes an
+ * answer. */
+#define LEVERBONNET_FIGURE_BYTES_MOST 135
+
 /* Added to the number of findings when the run is accepted. */
 #define LEVERBONNET_ACCEPTED 65536
 
@@ -100,6 +115,18 @@ uint64_t leverbonnet_reduce(const uint8_t *job, size_t job_len, uint16_t run,
                             uint8_t *lines, size_t lines_len,
                             uint8_t *findings, size_t findings_len);
 
+/*
+ * The same, with the figure in place of the house rule's 24 and 25 points: the lines
+ * are those of leverbonnet_reduce, and of the findings only that of rule 9 goes by the
+ * figure. Answers 14 for a figure that is not in order, whatever the job and the
+ * outputs are; else what leverbonnet_reduce answers, 1 to 8, 10 and 9.
+ */
+uint64_t leverbonnet_reduce_by_figure(const uint8_t *figure, size_t figure_len,
+                                      const uint8_t *job, size_t job_len,
+                                      uint16_t run, uint8_t *lines,
+                                      size_t lines_len, uint8_t *findings,
+                                      size_t findings_len);
+
 /* Succeeds with the number of runs, 1 to 16. */
 uint64_t leverbonnet_run_count(const uint8_t *job, size_t job_len);
 
@@ -120,6 +147,16 @@ uint64_t leverbonnet_run_number(const uint8_t *job, size_t job_len,
  */
 uint64_t leverbonnet_sheet_text(const uint8_t *job, size_t job_len,
                                 uint8_t *out, size_t out_len);
+
+/*
+ * The same, each run as leverbonnet_reduce_by_figure works it. Answers 14 for a
+ * figure that is not in order, whatever the job and the output are; else 1 to 8 and
+ * then 9. LEVERBONNET_TEXT_BYTES_MOST bytes suffice for it too.
+ */
+uint64_t leverbonnet_sheet_text_by_figure(const uint8_t *figure,
+                                          size_t figure_len, const uint8_t *job,
+                                          size_t job_len, uint8_t *out,
+                                          size_t out_len);
 
 /*
  * Lays out the points on one diameter of a round stack: points even, 2 to 24;

@@ -32,12 +32,12 @@ typedef struct {
     unsigned place;
 } leverbonnet_finding;
 
-/* The line of that number, 1 to 20, of the 180 bytes that leverbonnet_reduce
- * wrote. Any other number gives an absent line. */
+/* The line of that number, 1 to 20, of the 180 bytes that leverbonnet_reduce or
+ * leverbonnet_reduce_by_figure wrote. Any other number gives an absent line. */
 leverbonnet_line leverbonnet_line_of(const uint8_t *lines, unsigned number);
 
 /* The finding at that index, counted from 0 and below the number of findings that
- * leverbonnet_reduce answered, of the bytes that it wrote. */
+ * the same call answered, of the bytes that it wrote. */
 leverbonnet_finding leverbonnet_finding_of(const uint8_t *findings, size_t index);
 
 /* The name of a line, the unit that its value is shown in, and with how many
@@ -71,7 +71,8 @@ const char *leverbonnet_refusal_clause(unsigned number);
  *     a finding    Note 11, segment 1: the leak rate is above the allowance.
  *     a refusal    refusal 5 at byte 167: a field is out of its range
  *
- * The refusal is that of an answer whose LEVERBONNET_REFUSAL is not 0.
+ * The refusal is that of an answer whose LEVERBONNET_REFUSAL is not 0; of 14 it says
+ * that the byte is one of the figure.
  */
 int leverbonnet_line_words(leverbonnet_line line, char *out, size_t out_len);
 int leverbonnet_finding_words(leverbonnet_finding finding, char *out, size_t out_len);

@@ -1,9 +1,11 @@
-//! The fields of a job file in either version, and the clause that names the one a
-//! refusal is about. The tables are those of docs/RULES.md, row by row.
+//! The fields of a job file in either version and those of a figure, and the clause
+//! that names the one a refusal is about. The tables are those of docs/RULES.md, row
+//! by row.
 //!
 //! Nothing is judged here again: what the proved call found is put into words, as
-//! far as the job's bytes bear it out.
+//! far as the file's bytes bear it out.
 
+mod figure;
 mod numbers;
 mod order;
 mod part;
@@ -14,10 +16,12 @@ mod version;
 mod walk;
 
 pub use rows::{
-    Field, Instrument, Record, Type, CERTIFICATE, HEADER, INSTRUMENTS, POINT, RUN, SEGMENT,
-    WEIGHING,
+    Field, Instrument, Record, Type, CERTIFICATE, FIGURE_HEADER, HEADER, INSTRUMENTS, POINT, RUN,
+    SEGMENT, STEP, STEPS, WEIGHING,
 };
 pub use version::Version;
+
+pub(crate) use figure::clause as figure_clause;
 
 use crate::refusal::Refusal;
 use part::{Part, Which};

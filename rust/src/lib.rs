@@ -5,6 +5,7 @@
 //! | [`run_numbers`] | the numbers of a job's runs |
 //! | [`reduce_run`] | a run's twenty lines, its findings, and whether it stands |
 //! | [`sheet_text`] | the plain sheets of a whole job |
+//! | [`reduce_run_by_figure`], [`sheet_text_by_figure`] | the same, with a figure in place of the house rule's 24 and 25 points |
 //! | [`round_distances`], [`rect_distances`] | a traverse layout |
 //!
 //! Each gives what succeeded, or an [`Error`]: the library's [`Refusal`], or why it
@@ -14,9 +15,16 @@
 //! meter's factor moved by more than 5 percent, the factor Y and the [`Class`] of the
 //! finding go by the version; nothing else of a run does.
 //!
+//! A figure is a file of its own, an agency's steps of figure 1-1. The number of points
+//! that it asks for stands in place of the house rule's 24 and 25 of rule 9, and nothing
+//! else of a run goes by it. One that is not in order is refused, with 14, before the
+//! job is read; then come the job's own refusals, 1 to 8, then 10, then 9. Without a
+//! figure there is no 14.
+//!
 //! [`Reduced`], [`Line`], [`Finding`] and [`Refusal`] display themselves in words,
-//! and [`Refusal::in_job`] names the field that a job is refused for. All names and
-//! sentences stand in [`texts`], the fields of a job file in [`field`].
+//! [`Refusal::in_job`] names the field that a job is refused for and
+//! [`Refusal::in_figure`] that of a figure. All names and sentences stand in
+//! [`texts`], the fields of a job file and of a figure in [`field`].
 //! `examples/runs.rs` is a whole program over all runs of a job.
 //!
 //! ```no_run
@@ -73,4 +81,7 @@ pub use outputs::{
 };
 pub use reduced::Reduced;
 pub use refusal::Refusal;
-pub use typed::{rect_distances, reduce_run, round_distances, run_numbers, sheet_text};
+pub use typed::{
+    rect_distances, reduce_run, reduce_run_by_figure, round_distances, run_numbers, sheet_text,
+    sheet_text_by_figure,
+};

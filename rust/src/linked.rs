@@ -1,9 +1,21 @@
-//! The six calls of the archive linked into this program, over slices. Each
+//! The eight calls of the archive linked into this program, over slices. Each
 //! answers the library's own word, as [the package](crate) says.
 
 mod library {
     extern "C" {
         pub fn leverbonnet_reduce(
+            job: *const u8,
+            job_len: usize,
+            run: u16,
+            lines: *mut u8,
+            lines_len: usize,
+            findings: *mut u8,
+            findings_len: usize,
+        ) -> u64;
+
+        pub fn leverbonnet_reduce_by_figure(
+            figure: *const u8,
+            figure_len: usize,
             job: *const u8,
             job_len: usize,
             run: u16,
@@ -39,6 +51,15 @@ mod library {
             out: *mut u8,
             out_len: usize,
         ) -> u64;
+
+        pub fn leverbonnet_sheet_text_by_figure(
+            figure: *const u8,
+            figure_len: usize,
+            job: *const u8,
+            job_len: usize,
+            out: *mut u8,
+            out_len: usize,
+        ) -> u64;
     }
 }
 
@@ -49,6 +70,33 @@ pub fn reduce(job: &[u8], run_number: u16, lines: &mut [u8], findings: &mut [u8]
     // borrows keep the slices alive and apart, and the library keeps no pointer.
     unsafe {
         library::leverbonnet_reduce(
+            job.as_ptr(),
+            job.len(),
+            run_number,
+            lines.as_mut_ptr(),
+            lines.len(),
+            findings.as_mut_ptr(),
+            findings.len(),
+        )
+    }
+}
+
+/// As [`reduce`], with the figure in place of the house rule's 24 and 25 points. A
+/// bad figure is refused before the job is read.
+pub fn reduce_by_figure(
+    figure: &[u8],
+    job: &[u8],
+    run_number: u16,
+    lines: &mut [u8],
+    findings: &mut [u8],
+) -> u64 {
+    // SAFETY: each pointer comes with the length of the slice it heads, the
+    // borrows keep the slices alive and apart from what is written, and the
+    // library keeps no pointer.
+    unsafe {
+        library::leverbonnet_reduce_by_figure(
+            figure.as_ptr(),
+            figure.len(),
             job.as_ptr(),
             job.len(),
             run_number,
@@ -96,4 +144,22 @@ pub fn sheet_text(job: &[u8], out: &mut [u8]) -> u64 {
     // SAFETY: each pointer comes with the length of the slice it heads, the
     // borrows keep the slices alive and apart, and the library keeps no pointer.
     unsafe { library::leverbonnet_sheet_text(job.as_ptr(), job.len(), out.as_mut_ptr(), out.len()) }
+}
+
+/// As [`sheet_text`], with the figure in place of the house rule's 24 and 25 points.
+/// A bad figure is refused before the job is read.
+pub fn sheet_text_by_figure(figure: &[u8], job: &[u8], out: &mut [u8]) -> u64 {
+    // SAFETY: each pointer comes with the length of the slice it heads, the
+    // borrows keep the slices alive and apart from what is written, and the
+    // library keeps no pointer.
+    unsafe {
+        library::leverbonnet_sheet_text_by_figure(
+            figure.as_ptr(),
+            figure.len(),
+            job.as_ptr(),
+            job.len(),
+            out.as_mut_ptr(),
+            out.len(),
+        )
+    }
 }

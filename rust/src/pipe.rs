@@ -1,6 +1,6 @@
 //! The same calls over a pipe to the program `calls`, which makes them.
 //!
-//! The six functions here ask one program for the whole process, whose command
+//! The eight functions here ask one program for the whole process, whose command
 //! line is in the variable LEVERBONNET_CALLS, its words one a line. It is started
 //! at the first call, and again at the next call after it was lost or [ended](end).
 //! Each function answers the library's own word, as [the package](crate) says, or
@@ -18,7 +18,7 @@ mod shared;
 pub use call::Call;
 pub use client::Pipe;
 pub use command::CommandLine;
-pub use request::{Reply, Request};
+pub use request::{Files, Reply, Request};
 pub use shared::end;
 
 /// Works the run of that number into `lines` (20 of 9 bytes) and `findings` (4
@@ -34,18 +34,36 @@ pub fn reduce(
         lines_len: lines.len(),
         findings_len: findings.len(),
     };
-    shared::answer(call, job, [lines, findings])
+    shared::answer(call, job_alone(job), [lines, findings])
+}
+
+/// As [`reduce`], with the figure in place of the house rule's 24 and 25 points. A
+/// bad figure is refused before the job is read.
+pub fn reduce_by_figure(
+    figure: &[u8],
+    job: &[u8],
+    run_number: u16,
+    lines: &mut [u8],
+    findings: &mut [u8],
+) -> Result<u64, String> {
+    let call = Call::ReduceByFigure {
+        run: run_number,
+        lines_len: lines.len(),
+        findings_len: findings.len(),
+    };
+    shared::answer(call, Files { figure, job }, [lines, findings])
 }
 
 /// Succeeds with the number of runs.
 pub fn run_count(job: &[u8]) -> Result<u64, String> {
-    shared::answer(Call::RunCount, job, [&mut [], &mut []])
+    shared::answer(Call::RunCount, job_alone(job), [&mut [], &mut []])
 }
 
 /// Succeeds with the number of the run at that index, counted from 0; past the
 /// last run, refusal 10.
 pub fn run_number(job: &[u8], index: u16) -> Result<u64, String> {
-    shared::answer(Call::RunNumber { index }, job, [&mut [], &mut []])
+    let call = Call::RunNumber { index };
+    shared::answer(call, job_alone(job), [&mut [], &mut []])
 }
 
 /// Writes the distances of the points on a round stack's diameter, u32 each.
@@ -62,7 +80,7 @@ pub fn round_layout(
         nozzle,
         out_len: out.len(),
     };
-    shared::answer(call, &[], [out, &mut []])
+    shared::answer(call, job_alone(&[]), [out, &mut []])
 }
 
 /// Writes the centers of a rectangular stack's cells, two u32 each. Succeeds
@@ -74,7 +92,7 @@ pub fn rect_layout(points: u16, first: u16, second: u16, out: &mut [u8]) -> Resu
         second,
         out_len: out.len(),
     };
-    shared::answer(call, &[], [out, &mut []])
+    shared::answer(call, job_alone(&[]), [out, &mut []])
 }
 
 /// Writes the characters that the program `sheet` prints for a job that is read.
@@ -82,5 +100,19 @@ pub fn rect_layout(points: u16, first: u16, second: u16, out: &mut [u8]) -> Resu
 /// suffice.
 pub fn sheet_text(job: &[u8], out: &mut [u8]) -> Result<u64, String> {
     let out_len = out.len();
-    shared::answer(Call::SheetText { out_len }, job, [out, &mut []])
+    let call = Call::SheetText { out_len };
+    shared::answer(call, job_alone(job), [out, &mut []])
+}
+
+/// As [`sheet_text`], with the figure in place of the house rule's 24 and 25 points.
+/// A bad figure is refused before the job is read.
+pub fn sheet_text_by_figure(figure: &[u8], job: &[u8], out: &mut [u8]) -> Result<u64, String> {
+    let out_len = out.len();
+    let call = Call::SheetTextByFigure { out_len };
+    shared::answer(call, Files { figure, job }, [out, &mut []])
+}
+
+/// For a call that takes no figure.
+fn job_alone(job: &[u8]) -> Files<'_> {
+    Files { figure: &[], job }
 }

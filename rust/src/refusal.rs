@@ -5,7 +5,11 @@ use std::fmt;
 use crate::field;
 use crate::texts;
 
-/// A refusal's number, 1 to 11, and its place in the job.
+/// The number of the only refusal that is given for a figure.
+const BAD_FIGURE: u32 = 14;
+
+/// A refusal's number, and its place: a byte of the job for 1 to 8, of the figure for
+/// 14; 9, 10 and 11 are about no byte.
 #[derive(Clone, Copy, Debug, PartialEq, Eq)]
 pub struct Refusal {
     pub number: u32,
@@ -36,17 +40,36 @@ impl Refusal {
         field::clause(self, job).unwrap_or_else(|| self.cause().into())
     }
 
-    /// Whether its place is a byte of the job: 9, 10 and 11 are about no byte.
-    fn has_a_byte(&self) -> bool {
-        self.number <= 8
+    /// What is wrong with the figure that it was given for and where, as a clause: the
+    /// field, its value and its range, or the value of the step before. It is the
+    /// [cause](Refusal::cause) where it was given for another figure or for a job.
+    ///
+    /// ```
+    /// use leverbonnet::Refusal;
+    ///
+    /// let refusal = Refusal { number: 14, place: 5 };
+    /// assert_eq!(
+    ///     refusal.in_figure(b"FIG\x01\0\0"),
+    ///     "the number of steps from the last disturbance is 0 and not in its range, 1 to 16"
+    /// );
+    /// ```
+    pub fn in_figure(&self, figure: &[u8]) -> String {
+        field::figure_clause(self, figure).unwrap_or_else(|| self.cause().into())
+    }
+
+    /// Whether it was given for the figure, and no job was read.
+    pub fn is_about_the_figure(&self) -> bool {
+        self.number == BAD_FIGURE
     }
 }
 
 impl fmt::Display for Refusal {
     fn fmt(&self, f: &mut fmt::Formatter) -> fmt::Result {
         write!(f, "refusal {}", self.number)?;
-        if self.has_a_byte() {
-            write!(f, " at byte {}", self.place)?;
+        match self.number {
+            ..=8 => write!(f, " at byte {}", self.place)?,
+            BAD_FIGURE => write!(f, " at byte {} of the figure", self.place)?,
+            _ => (),
         }
         write!(f, ": {}", self.cause())
     }

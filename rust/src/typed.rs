@@ -12,9 +12,26 @@ use crate::way::{calls, Answer};
 
 /// Works the run of that number.
 pub fn reduce_run(job: &[u8], number: u16) -> Result<Reduced, Error> {
+    reduced(number, |lines, findings| {
+        calls::reduce(job, number, lines, findings).value()
+    })
+}
+
+/// As [`reduce_run`], with the figure in place of the house rule's 24 and 25 points.
+pub fn reduce_run_by_figure(figure: &[u8], job: &[u8], number: u16) -> Result<Reduced, Error> {
+    reduced(number, |lines, findings| {
+        calls::reduce_by_figure(figure, job, number, lines, findings).value()
+    })
+}
+
+/// The run of that number from what the call writes and answers.
+fn reduced(
+    number: u16,
+    call: impl FnOnce(&mut [u8], &mut [u8]) -> Result<u32, Error>,
+) -> Result<Reduced, Error> {
     let mut lines = [0; LINES_LENGTH];
     let mut findings = [0; MOST_FINDINGS * FINDING_LENGTH];
-    let value = calls::reduce(job, number, &mut lines, &mut findings).value()?;
+    let value = call(&mut lines, &mut findings)?;
     let count = (value % ACCEPTED) as usize;
     Ok(Reduced {
         number,
@@ -52,8 +69,18 @@ pub fn rect_distances(points: u16, first: u16, second: u16) -> Result<Vec<[u32; 
 
 /// The characters that the program `sheet` prints for a job that is read.
 pub fn sheet_text(job: &[u8]) -> Result<Vec<u8>, Error> {
+    text(|out| calls::sheet_text(job, out).value())
+}
+
+/// As [`sheet_text`], with the figure in place of the house rule's 24 and 25 points.
+pub fn sheet_text_by_figure(figure: &[u8], job: &[u8]) -> Result<Vec<u8>, Error> {
+    text(|out| calls::sheet_text_by_figure(figure, job, out).value())
+}
+
+/// The text that the call writes.
+fn text(call: impl FnOnce(&mut [u8]) -> Result<u32, Error>) -> Result<Vec<u8>, Error> {
     let mut out = vec![0; MOST_TEXT];
-    let written = calls::sheet_text(job, &mut out).value()?;
+    let written = call(&mut out)?;
     out.truncate(written as usize);
     Ok(out)
 }

@@ -1,5 +1,6 @@
 //! The lengths here and in the C header are those that the crates are proved with.
 
+use leverbonnet::field::{FIGURE_HEADER, STEP, STEPS};
 use leverbonnet::{FINDING_LENGTH, LINES_LENGTH, LINE_LENGTH, MOST_FINDINGS, MOST_TEXT};
 
 const HEADER: &str = include_str!("../../include/leverbonnet.h");
@@ -43,7 +44,9 @@ fn of_a_text() {
     let theorems = include_str!("../../crates/printing/proofs/Lengths.antt");
     assert_holds(
         theorems,
-        &format!("pub text-most : (s : List ℕ) → length (jobText s) ≤ {MOST_TEXT}"),
+        &format!(
+            "pub text-most : (fig : Figure) (s : List ℕ) → length (jobText fig s) ≤ {MOST_TEXT}"
+        ),
     );
     assert_holds(
         HEADER,
@@ -59,5 +62,19 @@ fn of_a_job() {
     assert_holds(
         HEADER,
         &format!("#define LEVERBONNET_JOB_BYTES_MOST {longest}"),
+    );
+}
+
+#[test]
+fn of_a_figure() {
+    let range = STEPS.fields[0].range.split_once(" to ");
+    let (_, most_steps) = range.expect("a range has ends");
+    let most_steps: usize = most_steps.parse().expect("an end is a number");
+    let longest = FIGURE_HEADER.length + 2 * (STEPS.length + most_steps * STEP.length);
+    let definition = include_str!("../../crates/figures/specs/Figures.antt");
+    assert_holds(definition, &format!("longestFigure = {longest}"));
+    assert_holds(
+        HEADER,
+        &format!("#define LEVERBONNET_FIGURE_BYTES_MOST {longest}"),
     );
 }

@@ -11,6 +11,10 @@ use leverbonnet::MOST_TEXT;
 const WORKED: &[u8] = include_bytes!("../../examples/worked.job");
 const WORKED_TEXT: &[u8] = include_bytes!("../../examples/worked.txt");
 
+/// One step in each list, made up. The worked job is far from disturbances, so that
+/// it comes to the same by any figure.
+const FIGURE: &[u8] = b"FIG\x01\0\x01\0\0\x30\x31\x01\0\0\x30\x31";
+
 const UNTOUCHED: u8 = 0xA5;
 const TOO_SHORT: u64 = 9 << 32;
 const ACCEPTED: u64 = 65_536;
@@ -60,6 +64,38 @@ fn a_refused_reduce_changes_no_byte() {
 }
 
 #[test]
+fn reduce_by_figure_writes_what_reduce_does_and_nothing_beyond() {
+    let (mut lines, mut findings) = ([UNTOUCHED; 200], [UNTOUCHED; 40]);
+    calls::reduce(WORKED, 7, &mut lines, &mut findings).word();
+    for (lines_len, findings_len) in [(180, 4), (200, 40)] {
+        let mut by_figure = (vec![UNTOUCHED; lines_len], vec![UNTOUCHED; findings_len]);
+        let (own_lines, own_findings) = (&mut by_figure.0, &mut by_figure.1);
+        let answer = calls::reduce_by_figure(FIGURE, WORKED, 7, own_lines, own_findings).word();
+        assert_eq!(answer, ACCEPTED + 1);
+        assert_eq!(own_lines[..], lines[..lines_len]);
+        assert_eq!(own_findings[..], findings[..findings_len]);
+    }
+}
+
+#[test]
+fn a_refused_reduce_by_figure_changes_no_byte() {
+    let short = &FIGURE[..FIGURE.len() - 1];
+    for (figure, job, run, lens, refused) in [
+        (short, WORKED, 7, (200, 40), 14 << 32 | 14),
+        (short, &[][..], 7, (200, 40), 14 << 32 | 14),
+        (FIGURE, &[][..], 7, (200, 40), 1 << 32),
+        (FIGURE, WORKED, 8, (0, 0), 10 << 32),
+        (FIGURE, WORKED, 7, (179, 4), TOO_SHORT),
+        (FIGURE, WORKED, 7, (180, 3), TOO_SHORT),
+    ] {
+        let (mut lines, mut findings) = (vec![UNTOUCHED; lens.0], vec![UNTOUCHED; lens.1]);
+        let answer = calls::reduce_by_figure(figure, job, run, &mut lines, &mut findings).word();
+        assert_eq!(answer, refused);
+        assert!(untouched(&lines) && untouched(&findings));
+    }
+}
+
+#[test]
 fn layouts_write_their_distances_and_nothing_beyond() {
     let mut out = [UNTOUCHED; 100];
     assert_eq!(calls::round_layout(2, 1_000, 250, &mut out).word(), 8);
@@ -103,4 +139,31 @@ fn the_text_of_a_refused_job_changes_no_byte() {
         1 << 32 | 9
     );
     assert!(untouched(&out));
+}
+
+#[test]
+fn a_text_by_figure_is_written_and_nothing_beyond() {
+    let length = WORKED_TEXT.len();
+    for room in [length, length + 1, MOST_TEXT, 70_000] {
+        let mut out = vec![UNTOUCHED; room];
+        let answer = calls::sheet_text_by_figure(FIGURE, WORKED, &mut out).word();
+        assert_eq!(answer, length as u64);
+        assert_eq!(&out[..length], WORKED_TEXT);
+        assert!(untouched(&out[length..]));
+    }
+}
+
+#[test]
+fn a_refused_text_by_figure_changes_no_byte() {
+    for (figure, job, room, refused) in [
+        (&FIGURE[..3], WORKED, MOST_TEXT, 14 << 32 | 3),
+        (&[][..], &[][..], MOST_TEXT, 14 << 32),
+        (FIGURE, &WORKED[..9], MOST_TEXT, 1 << 32 | 9),
+        (FIGURE, WORKED, WORKED_TEXT.len() - 1, TOO_SHORT),
+    ] {
+        let mut out = vec![UNTOUCHED; room];
+        let answer = calls::sheet_text_by_figure(figure, job, &mut out).word();
+        assert_eq!(answer, refused);
+        assert!(untouched(&out));
+    }
 }

@@ -1,12 +1,14 @@
-//! The tables of the job file, row by row those of docs/RULES.md, and its lengths.
+//! The tables of the job file and of the figure file, row by row those of
+//! docs/RULES.md, and their lengths.
 
 use leverbonnet::field::{
-    Field, Record, Version, CERTIFICATE, HEADER, INSTRUMENTS, POINT, RUN, SEGMENT, WEIGHING,
+    Field, Record, Version, CERTIFICATE, FIGURE_HEADER, HEADER, INSTRUMENTS, POINT, RUN, SEGMENT,
+    STEP, STEPS, WEIGHING,
 };
 
 const RULES: &str = include_str!("../../docs/RULES.md");
 
-const RECORDS: [(&str, Record); 6] = [
+const RECORDS: [(&str, Record); 9] = [
     ("### Header, 9 bytes", HEADER),
     (
         "### Certificate, 16 bytes in version 1, 17 in version 2",
@@ -19,6 +21,9 @@ const RECORDS: [(&str, Record); 6] = [
     ("### Point, 12 bytes", POINT),
     ("### Segment, 4 bytes", SEGMENT),
     ("### Weighing, 14 bytes", WEIGHING),
+    ("### Figure header, 5 bytes", FIGURE_HEADER),
+    ("### Steps, 1 byte", STEPS),
+    ("### Step, 4 bytes", STEP),
 ];
 
 /// The head of a table: one column of places where both versions have the same,
@@ -87,6 +92,8 @@ fn the_lengths_of_a_record_are_those_of_its_heading() {
         );
         let lengths = if differs(&record) {
             format!("{one} bytes in version 1, {two} in version 2")
+        } else if one == 1 {
+            "1 byte".into()
         } else {
             format!("{one} bytes")
         };
@@ -155,6 +162,15 @@ fn the_lengths_of_a_job_are_those_of_its_records() {
         let cells = cells.iter().map(|cell| cell.replace(',', ""));
         assert_eq!(cells.skip(1).collect::<Vec<_>>(), lengths);
     }
+}
+
+#[test]
+fn the_lengths_of_a_figure_are_those_of_its_records() {
+    let steps = ends(&STEPS, "number of steps");
+    let [shortest, longest] =
+        steps.map(|steps| FIGURE_HEADER.length + 2 * (STEPS.length + steps * STEP.length));
+    let sentence = format!("A figure has from {shortest} to {longest} bytes.");
+    assert!(RULES.contains(&sentence), "{sentence}");
 }
 
 #[test]

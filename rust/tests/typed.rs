@@ -4,8 +4,8 @@
 use std::thread;
 
 use leverbonnet::{
-    rect_distances, reduce_run, round_distances, run_numbers, Class, Error, Finding, Line, Reduced,
-    Refusal,
+    rect_distances, reduce_run, reduce_run_by_figure, round_distances, run_numbers,
+    sheet_text_by_figure, Class, Error, Finding, Line, Reduced, Refusal,
 };
 
 const WORKED: &[u8] = include_bytes!("../../examples/worked.job");
@@ -62,6 +62,66 @@ fn a_void_run_with_absent_lines() {
 fn runs_in_file_order() {
     let numbers = run_numbers(SEVERAL_RUNS);
     assert_eq!(numbers, Ok(vec![1, 2, 3, 10, 11, 12, 13, 20, 999]));
+}
+
+/// A figure with one step in each list, which asks for so many points at every
+/// distance.
+fn figure(round: u8, rectangular: u8) -> Vec<u8> {
+    let list = [1, 0, 0, round, rectangular];
+    [&b"FIG\x01\0"[..], &list, &list].concat()
+}
+
+/// The worked job, whose stack is 24.0 in wide, with that distance from the last
+/// disturbance, 0.1 in: 8 diameters are 1,920.
+fn worked_at(from_the_last: u16) -> Vec<u8> {
+    let mut job = WORKED.to_vec();
+    job[123..125].copy_from_slice(&from_the_last.to_le_bytes());
+    job
+}
+
+/// Whether the run of a job, by that figure or without one, has too few points.
+fn too_few_points(figure: Option<&[u8]>, job: &[u8]) -> bool {
+    let run = match figure {
+        Some(figure) => reduce_run_by_figure(figure, job, 7),
+        None => reduce_run(job, 7),
+    };
+    run.unwrap()
+        .findings
+        .iter()
+        .any(|finding| finding.rule == 9)
+}
+
+#[test]
+fn near_a_disturbance_a_figure_takes_the_place_of_the_house_rule() {
+    let near = worked_at(1_919);
+    assert!(too_few_points(None, &near));
+    for points in 1..=48 {
+        let by_figure = too_few_points(Some(&figure(points, 49)), &near);
+        assert_eq!(by_figure, points > 8, "its 8 points against {points}");
+    }
+}
+
+#[test]
+fn far_from_disturbances_a_figure_changes_nothing() {
+    let far = worked_at(1_920);
+    assert_eq!(far, WORKED);
+    for (round, rectangular) in [(1, 1), (48, 49)] {
+        let by_figure = reduce_run_by_figure(&figure(round, rectangular), &far, 7);
+        assert_eq!(by_figure, reduce_run(&far, 7));
+    }
+}
+
+#[test]
+fn a_figure_is_refused_before_the_job() {
+    let refused = |number, place| Error::Refused(Refusal { number, place });
+    let bad = figure(49, 49);
+    for job in [WORKED, REFUSED, &[]] {
+        assert_eq!(reduce_run_by_figure(&bad, job, 8), Err(refused(14, 8)));
+        assert_eq!(sheet_text_by_figure(&bad, job), Err(refused(14, 8)));
+    }
+    let good = figure(24, 25);
+    assert_eq!(sheet_text_by_figure(&good, REFUSED), Err(refused(5, 167)));
+    assert_eq!(reduce_run_by_figure(&good, WORKED, 8), Err(refused(10, 0)));
 }
 
 #[test]

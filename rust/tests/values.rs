@@ -1,9 +1,10 @@
 //! The values to try a program on of docs/RULES.md that no theorem has: layouts,
 //! the worked job in a slow stack, with a factor that moved, with the least gas, at
-//! the limits of line 18, with letters, and made bad.
+//! the limits of line 18, by figures, with letters, and made bad.
 
 use leverbonnet::{
-    rect_distances, reduce_run, round_distances, run_numbers, Class, Error, Reduced,
+    rect_distances, reduce_run, reduce_run_by_figure, round_distances, run_numbers, Class, Error,
+    Reduced,
 };
 
 const WORKED: &[u8] = include_bytes!("../../examples/worked.job");
@@ -135,6 +136,86 @@ fn a_factor_that_moved_is_a_fault_in_version_2_with_the_factor_before() {
         assert_eq!(run.lines, worked.lines);
         assert_eq!(classes(&run), [(5, Class::Fault), (11, Class::Note)]);
         assert!(!run.accepted);
+    }
+}
+
+/// The worked job with its last disturbance so far off and so many points, all as its
+/// own but for their seconds.
+fn near(last_disturbance: u16, points: u8, seconds: u16) -> Vec<u8> {
+    let mut job = with(123, &last_disturbance.to_le_bytes());
+    job[133] = points;
+    let mut point = job[POINTS[0]..POINTS[1]].to_vec();
+    put(&mut point, 0, seconds);
+    let all = POINTS[0]..POINTS[7] + point.len();
+    job.splice(all, point.repeat(points.into()));
+    job
+}
+
+/// A list of steps: least distance, points round and rectangular.
+type Steps<'a> = &'a [(u16, u8, u8)];
+
+/// The figure of these two lists.
+fn figure(lists: [Steps; 2]) -> Vec<u8> {
+    let mut bytes = b"FIG\x01\0".to_vec();
+    for steps in lists {
+        bytes.push(steps.len() as u8);
+        for &(least, round, rectangular) in steps {
+            bytes.extend(least.to_le_bytes());
+            bytes.extend([round, rectangular]);
+        }
+    }
+    bytes
+}
+
+/// The figure that asks for so many points, whatever the shape and the distances.
+fn asks_for(points: u8) -> Vec<u8> {
+    figure([&[(0, points, points)]; 2])
+}
+
+/// Whether a run is the worked job's, but for a fault 9 that makes it void.
+fn is_void_by_nine(run: &Reduced) -> bool {
+    let worked = reduce_run(WORKED, 7).unwrap();
+    assert_eq!(run.lines, worked.lines);
+    if run.accepted {
+        assert_eq!(*run, worked);
+        return false;
+    }
+    assert_eq!(classes(run), [(9, Class::Fault), (11, Class::Note)]);
+    true
+}
+
+#[test]
+fn a_disturbance_that_is_near() {
+    let fewer = near(1_919, 8, 450);
+    let more = near(1_919, 24, 150);
+    let by_figure = |points, job| reduce_run_by_figure(&asks_for(points), job, 7).unwrap();
+    assert!(is_void_by_nine(&reduce_run(&fewer, 7).unwrap()));
+    assert!(!is_void_by_nine(&by_figure(8, &fewer)));
+    assert!(!is_void_by_nine(&reduce_run(&more, 7).unwrap()));
+    assert!(is_void_by_nine(&by_figure(36, &more)));
+    let fewest = near(1_919, 4, 900);
+    assert!(!is_void_by_nine(&by_figure(1, &fewest)));
+}
+
+#[test]
+fn either_side_of_a_step() {
+    let steps = figure([&[(0, 48, 49), (799, 24, 25)], &[(0, 8, 9)]]);
+    for (last_disturbance, is_void) in [(1_917, true), (1_918, false)] {
+        let job = near(last_disturbance, 24, 150);
+        let run = reduce_run_by_figure(&steps, &job, 7).unwrap();
+        assert_eq!(is_void_by_nine(&run), is_void);
+    }
+}
+
+#[test]
+fn a_figure_that_is_refused() {
+    for (figure, place) in [(&b"XIG"[..], 0), (b"XI", 2), (b"FIG\x01", 4), (b"", 0)] {
+        match reduce_run_by_figure(figure, WORKED, 7) {
+            Err(Error::Refused(refusal)) => {
+                assert_eq!((refusal.number, refusal.place), (14, place))
+            }
+            other => panic!("{other:?}"),
+        }
     }
 }
 

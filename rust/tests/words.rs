@@ -237,6 +237,22 @@ fn a_refusal_about_a_byte_names_it() {
 }
 
 #[test]
+fn a_refusal_about_a_byte_of_the_figure_says_so() {
+    let refusal = Refusal {
+        number: 14,
+        place: 5,
+    };
+    let said = "refusal 14 at byte 5 of the figure: the figure ends early, has a field out of \
+                range or order, or has bytes left over";
+    assert_eq!(refusal.to_string(), said);
+    assert!(refusal.is_about_the_figure());
+    for number in (0..14).chain(15..20) {
+        let other = Refusal { number, place: 5 };
+        assert!(!other.is_about_the_figure() && !other.to_string().contains("figure"));
+    }
+}
+
+#[test]
 fn a_refusal_about_no_byte_names_none() {
     for number in 9..=11 {
         let said = Refusal { number, place: 0 }.to_string();
@@ -247,13 +263,13 @@ fn a_refusal_about_no_byte_names_none() {
 #[test]
 fn every_refusal_has_a_cause_of_its_own() {
     let cause = |number| Refusal { number, place: 0 }.cause();
-    let mut causes: Vec<_> = (1..=11).map(cause).collect();
-    for none in [0, 12, u32::MAX] {
+    let mut causes: Vec<_> = (1..=11).chain([14]).map(cause).collect();
+    for none in [0, 12, 13, 15, u32::MAX] {
         assert_eq!(cause(none), "no refusal has that number");
     }
     causes.sort_unstable();
     causes.dedup();
-    assert_eq!(causes.len(), 11);
+    assert_eq!(causes.len(), texts::REFUSALS.len());
 }
 
 #[test]

@@ -3,7 +3,7 @@
 use std::ffi::{OsStr, OsString};
 
 use crate::complaint::{shown, Complaint};
-use crate::given::Given;
+use crate::given::{Given, Known};
 use crate::{help, install, layout, sheet, test, version, Work};
 
 /// What a command asks for.
@@ -22,7 +22,7 @@ pub(crate) struct Command {
     /// What else there is to know, in whole lines.
     pub about: &'static str,
     /// Its options beside `--help`.
-    pub options: &'static [&'static str],
+    pub options: &'static [Known],
     pub read: fn(Given) -> Result<Asked, Complaint>,
 }
 
@@ -45,7 +45,7 @@ pub(crate) fn asked(words: Vec<OsString>) -> Result<Asked, Complaint> {
         Some(name) => named(&name)?,
         None => return Ok(Asked::Text(help::short())),
     };
-    let given = Given::sorted(words);
+    let given = Given::sorted(words, command.options);
     if HELP_OPTIONS.iter().any(|option| given.has(option)) {
         return Ok(Asked::Text(help::of(command)));
     }
@@ -69,10 +69,19 @@ pub(crate) fn named(name: &OsStr) -> Result<&'static Command, Complaint> {
 }
 
 fn unknown_option(command: &Command, option: &OsStr) -> Complaint {
-    let known: Vec<&str> = command.options.iter().chain(&["--help"]).copied().collect();
-    let known = known.join(" and ");
+    let options: Vec<String> = command.options.iter().map(called).collect();
+    let options = options.join(", ");
+    let and = if options.is_empty() { "" } else { " and " };
     let (option, name) = (shown(option), command.name);
-    format!("{option} is no option of {name}, which knows {known}.").into()
+    format!("{option} is no option of {name}, which knows {options}{and}--help.").into()
+}
+
+/// An option as it is given, with what its word stands for.
+fn called(option: &Known) -> String {
+    match option.takes {
+        Some(word) => format!("{} {word}", option.name),
+        None => option.name.into(),
+    }
 }
 
 #[cfg(test)]
@@ -118,6 +127,14 @@ mod tests {
             complaint(&["layout", "round", "6", "240", "250", "--png"]),
             "--png is no option of layout, which knows --svg and --help."
         );
+        assert_eq!(
+            complaint(&["sheet", "--figure=a.fig"]),
+            "--figure=a.fig is no option of sheet, which knows --words, --figure FIGURE and --help."
+        );
+        assert_eq!(
+            complaint(&["test", "--png"]),
+            "--png is no option of test, which knows --help."
+        );
         for command in COMMANDS {
             assert!(complaint(&[command.name, "--png"]).starts_with("--png is no option"));
         }
@@ -130,6 +147,10 @@ mod tests {
             &["frob\nfrob"],
             &["sheet", "--x\n"],
             &["sheet", "-", "-"],
+            &["sheet", "--figure"],
+            &["sheet", "--figure", "a", "--figure", "b"],
+            &["sheet", "--figure=a"],
+            &["sheet", "--figure", "-"],
             &["layout"],
             &["layout", "square", "9", "240", "250"],
             &["layout", "round", "six", "240", "250"],

@@ -37,8 +37,8 @@ pub(crate) fn short() -> String {
 Leverbonnet works stack-test field sheets and says whether each run stands.
 
 {lines}
-Each word has its own --help. The status is 0, or 2 if a job or a layout was
-refused, or 1 if something went wrong.
+Each word has its own --help. The status is 0, or 2 if a job, a figure or a
+layout was refused, or 1 if something went wrong.
 "
     )
 }

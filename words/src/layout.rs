@@ -5,13 +5,16 @@ use std::fmt;
 
 use crate::command::{Asked, Command};
 use crate::complaint::{shown, Complaint};
-use crate::given::Given;
+use crate::given::{Given, Known};
 use crate::size::{self, Size};
 use crate::Work;
 
 const ROUND: &str = "layout round POINTS DIAMETER NOZZLE [--svg]";
 const RECTANGULAR: &str = "layout rect POINTS FIRST SECOND [--svg]";
-const SVG: &str = "--svg";
+const SVG: Known = Known {
+    name: "--svg",
+    takes: None,
+};
 
 pub(crate) const COMMAND: Command = Command {
     name: "layout",
@@ -94,7 +97,7 @@ impl fmt::Display for Layout {
 }
 
 fn read(mut given: Given) -> Result<Asked, Complaint> {
-    let drawn = given.has(SVG);
+    let drawn = given.has(SVG.name);
     let shape = given.needed("the shape", &format!("{ROUND} or {RECTANGULAR}"))?;
     let (points, stack) = match shape.to_str() {
         Some("round") => {

@@ -1,18 +1,28 @@
-//! sheet [--words] [FILE..]
+//! sheet [--words] [--figure FIGURE] [FILE..]
 
 use std::ffi::OsString;
 use std::path::PathBuf;
 
 use crate::command::{Asked, Command};
 use crate::complaint::Complaint;
-use crate::given::Given;
+use crate::given::{Given, Known};
 use crate::Work;
 
-const WORDS: &str = "--words";
+const USAGE: &str = "sheet [--words] [--figure FIGURE] [FILE..]";
+
+const WORDS: Known = Known {
+    name: "--words",
+    takes: None,
+};
+
+const FIGURE: Known = Known {
+    name: "--figure",
+    takes: Some("FIGURE"),
+};
 
 pub(crate) const COMMAND: Command = Command {
     name: "sheet",
-    usage: &[["sheet [--words] [FILE..]", "the sheets of each job"]],
+    usage: &[[USAGE, "the sheets of each job"]],
     about: "\
 No FILE, or -, is standard input. With more than one FILE a line ==> NAME <==
 stands before each, and one that is refused or can't be read does not stop the
@@ -21,8 +31,13 @@ begins with - is given as ./-.. or after --.
 
 --words prints each job for a person: a line by its name and in its unit, a
 finding as a sentence, and a refused job as a sentence that names the field.
+
+--figure reads the file FIGURE, an agency's steps of figure 1-1. For every job
+its number of points then stands in place of the house rule's 24 and 25 of rule
+9. It is judged before any job is read: one that is refused prints REFUSED, 14
+and its place, and no sheet. A FIGURE of - is standard input.
 ",
-    options: &[WORDS],
+    options: &[WORDS, FIGURE],
     read,
 };
 
@@ -30,11 +45,13 @@ finding as a sentence, and a refused job as a sentence that names the field.
 #[derive(Debug, PartialEq, Eq)]
 pub struct Sheet {
     pub sources: Vec<Source>,
+    /// The figure that all of them go by.
+    pub figure: Option<Source>,
     /// For a person in place of the plain sheet.
     pub in_words: bool,
 }
 
-/// Where a job is read from.
+/// Where a job or a figure is read from.
 #[derive(Debug, PartialEq, Eq)]
 pub enum Source {
     StandardInput,
@@ -52,19 +69,25 @@ impl From<OsString> for Source {
 }
 
 fn read(mut given: Given) -> Result<Asked, Complaint> {
-    let in_words = given.has(WORDS);
+    let in_words = given.has(WORDS.name);
+    let figure = given.word_of(FIGURE.name, USAGE)?.map(Source::from);
     let words = std::iter::from_fn(|| given.next());
     let mut sources: Vec<Source> = words.map(Source::from).collect();
-    let inputs = sources
-        .iter()
-        .filter(|source| **source == Source::StandardInput);
-    if inputs.count() > 1 {
+    if sources.is_empty() && figure == Some(Source::StandardInput) {
+        return Err("standard input is the figure: name the FILE of the job.".into());
+    }
+    let inputs = sources.iter().chain(&figure);
+    if inputs.filter(|one| **one == Source::StandardInput).count() > 1 {
         return Err("standard input can be read once: give - at most once.".into());
     }
     if sources.is_empty() {
         sources.push(Source::StandardInput);
     }
-    Ok(Asked::Work(Work::Sheet(Sheet { sources, in_words })))
+    Ok(Asked::Work(Work::Sheet(Sheet {
+        sources,
+        figure,
+        in_words,
+    })))
 }
 
 #[cfg(test)]
@@ -81,6 +104,10 @@ mod tests {
             Ok(Asked::Work(Work::Sheet(sheet))) => sheet,
             other => panic!("{given:?}: {other:?}"),
         }
+    }
+
+    fn complaint(given: &[&str]) -> String {
+        words(given).unwrap_err().sentence().into()
     }
 
     fn sources(given: &[&str]) -> Vec<Source> {
@@ -137,17 +164,81 @@ mod tests {
     #[test]
     fn another_option_is_told_which_there_are() {
         assert_eq!(
-            words(&["sheet", "--word"]).unwrap_err().sentence(),
-            "--word is no option of sheet, which knows --words and --help."
+            complaint(&["sheet", "--word"]),
+            "--word is no option of sheet, which knows --words, --figure FIGURE and --help."
+        );
+    }
+
+    #[test]
+    fn a_figure_may_be_named_anywhere_but_after_two_dashes() {
+        for given in [
+            &["sheet", "--figure", "f", "a"][..],
+            &["sheet", "a", "--figure", "f"],
+            &["sheet", "a", "--words", "--figure", "f"],
+            &["sheet", "--figure", "f", "--", "a"],
+        ] {
+            let sheet = sheet(given);
+            assert_eq!(sheet.figure, Some(Source::File("f".into())), "{given:?}");
+            assert_eq!(sheet.sources, [Source::File("a".into())], "{given:?}");
+        }
+        for given in [&["sheet", "a"][..], &["sheet", "--", "--figure", "a"]] {
+            assert_eq!(sheet(given).figure, None, "{given:?}");
+        }
+    }
+
+    #[test]
+    fn a_figure_is_no_job() {
+        assert_eq!(
+            sources(&["sheet", "--figure", "f"]),
+            [Source::StandardInput]
+        );
+        let figure = sheet(&["sheet", "--figure", "-", "a"]).figure;
+        assert_eq!(figure, Some(Source::StandardInput));
+    }
+
+    #[test]
+    fn an_option_for_a_figure_without_one_is_a_complaint() {
+        for given in [
+            &["sheet", "--figure"][..],
+            &["sheet", "a", "--figure"],
+            &["sheet", "--figure", "--words", "a"],
+            &["sheet", "--figure", "--", "a"],
+        ] {
+            assert_eq!(
+                complaint(given),
+                "the word behind --figure is missing: call it as leverbonnet sheet [--words] \
+                 [--figure FIGURE] [FILE..]."
+            );
+        }
+    }
+
+    #[test]
+    fn two_figures_are_a_complaint() {
+        assert_eq!(
+            complaint(&["sheet", "--figure", "f", "a", "--figure", "f"]),
+            "--figure can be given once."
         );
     }
 
     #[test]
     fn standard_input_twice_is_a_complaint() {
-        let complaint = words(&["sheet", "-", "a", "-"]).unwrap_err();
+        for given in [
+            &["sheet", "-", "a", "-"][..],
+            &["sheet", "--figure", "-", "-"],
+            &["sheet", "a", "-", "--figure", "-"],
+        ] {
+            assert_eq!(
+                complaint(given),
+                "standard input can be read once: give - at most once."
+            );
+        }
+    }
+
+    #[test]
+    fn with_the_figure_on_standard_input_a_job_has_to_be_named() {
         assert_eq!(
-            complaint.sentence(),
-            "standard input can be read once: give - at most once."
+            complaint(&["sheet", "--figure", "-"]),
+            "standard input is the figure: name the FILE of the job."
         );
     }
 }

@@ -6,7 +6,7 @@ use std::process::ExitCode;
 #[derive(Clone, Copy, Debug, PartialEq, Eq, PartialOrd, Ord)]
 pub enum Status {
     Done,
-    /// A job or a layout was refused.
+    /// A job, a figure or a layout was refused.
     Refused,
     /// Something went wrong: bad words, a file that can't be read, a text that
     /// can't be written, proved calls that can't be reached.

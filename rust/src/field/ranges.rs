@@ -1,4 +1,4 @@
-//! Refusals 2 to 5: a field is out of its range.
+//! Refusals 2 to 5, and 14 where it is for a range: a field is out of its range.
 
 use std::ops::RangeInclusive;
 
@@ -44,10 +44,12 @@ fn subject(field: &Field, which: Which) -> String {
     }
 }
 
-fn predicate(field: &Field, bytes: &[u8]) -> String {
-    let (is, its) = match field.name {
-        "seconds" => ("are", "their"),
-        _ => ("is", "its"),
+/// What is said of a field with these bytes that is out of its range.
+pub fn predicate(field: &Field, bytes: &[u8]) -> String {
+    let (is, its) = if field.is_plural() {
+        ("are", "their")
+    } else {
+        ("is", "its")
     };
     let not = match contents(field, bytes) {
         Some(contents) => format!("{contents} and not"),
@@ -89,7 +91,7 @@ fn in_unit(field: &Field) -> String {
 
 /// Whether the field is in its range. Where the range speaks of more than numbers
 /// the proved call is believed that it is not.
-fn is_in_range(field: &Field, bytes: &[u8]) -> bool {
+pub fn is_in_range(field: &Field, bytes: &[u8]) -> bool {
     match (field.range, field.holds.number(bytes)) {
         ("", _) => true,
         ("A to Z each", _) => bytes.iter().all(u8::is_ascii_uppercase),

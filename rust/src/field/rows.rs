@@ -1,5 +1,5 @@
-//! The records of a job file and their fields: a row a field, as the tables of
-//! docs/RULES.md have it.
+//! The records of a job file and of a figure, and their fields: a row a field, as the
+//! tables of docs/RULES.md have it.
 
 use Type::{Letter, Letters, I16, U16, U32, U8};
 
@@ -175,6 +175,35 @@ pub const WEIGHING: Record = Record {
     ],
 };
 
+/// The records of a figure, the same in every version of a job file: its header, what
+/// stands before each of its two lists of steps, and a step.
+#[rustfmt::skip]
+pub const FIGURE_HEADER: Record = Record {
+    length: 5,
+    fields: &[
+        row(0, Letters, "mark",    "FIG", ""),
+        row(3, U16,     "version", "1",   ""),
+    ],
+};
+
+#[rustfmt::skip]
+pub const STEPS: Record = Record {
+    length: 1,
+    fields: &[
+        row(0, U8, "number of steps", "1 to 16", ""),
+    ],
+};
+
+#[rustfmt::skip]
+pub const STEP: Record = Record {
+    length: 4,
+    fields: &[
+        row(0, U16, "least distance",                 "",        "0.01 diameter"),
+        row(2, U8,  "points for a round stack",       "1 to 48", ""),
+        row(3, U8,  "points for a rectangular stack", "1 to 49", ""),
+    ],
+};
+
 const fn row(
     at: usize,
     holds: Type,
@@ -207,6 +236,11 @@ impl Field {
             name if name.starts_with("number of ") => 4,
             _ => 5,
         }
+    }
+
+    /// Whether its name speaks of several: seconds, and the points of a step.
+    pub(super) fn is_plural(&self) -> bool {
+        self.name == "seconds" || self.name.starts_with("points ")
     }
 
     /// Whether its range depends on the certificate's kind.

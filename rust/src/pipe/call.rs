@@ -9,6 +9,11 @@ pub enum Call {
         lines_len: usize,
         findings_len: usize,
     },
+    ReduceByFigure {
+        run: u16,
+        lines_len: usize,
+        findings_len: usize,
+    },
     RunCount,
     RunNumber {
         index: u16,
@@ -28,6 +33,9 @@ pub enum Call {
     SheetText {
         out_len: usize,
     },
+    SheetTextByFigure {
+        out_len: usize,
+    },
 }
 
 impl Call {
@@ -39,10 +47,16 @@ impl Call {
                 lines_len,
                 findings_len,
                 ..
+            }
+            | Call::ReduceByFigure {
+                lines_len,
+                findings_len,
+                ..
             } => vec![lines_len, findings_len],
             Call::RoundLayout { out_len, .. }
             | Call::RectLayout { out_len, .. }
-            | Call::SheetText { out_len } => vec![out_len],
+            | Call::SheetText { out_len }
+            | Call::SheetTextByFigure { out_len } => vec![out_len],
         }
     }
 
@@ -53,10 +67,13 @@ impl Call {
         match self {
             _ if refusal != 0 => [0, 0],
             Call::RunCount | Call::RunNumber { .. } => [0, 0],
-            Call::Reduce { .. } => [LINES_LENGTH, (value % ACCEPTED) as usize * FINDING_LENGTH],
-            Call::RoundLayout { .. } | Call::RectLayout { .. } | Call::SheetText { .. } => {
-                [value as usize, 0]
+            Call::Reduce { .. } | Call::ReduceByFigure { .. } => {
+                [LINES_LENGTH, (value % ACCEPTED) as usize * FINDING_LENGTH]
             }
+            Call::RoundLayout { .. }
+            | Call::RectLayout { .. }
+            | Call::SheetText { .. }
+            | Call::SheetTextByFigure { .. } => [value as usize, 0],
         }
     }
 }

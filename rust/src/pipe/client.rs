@@ -3,7 +3,7 @@
 
 use super::call::Call;
 use super::command::CommandLine;
-use super::request::{Reply, Request};
+use super::request::{Files, Reply, Request};
 use super::running::Running;
 
 /// Replies that may wait unread: fewer than a pipe holds, so that the program
@@ -26,15 +26,15 @@ impl Pipe {
         Ok(Pipe { command, running })
     }
 
-    /// What came back for each request on the job, until one did not come back:
+    /// What came back for each request on the files, until one did not come back:
     /// that is told in words, and is the last one told.
-    pub fn replies(&mut self, requests: &[Request], job: &[u8]) -> Vec<Result<Reply, String>> {
+    pub fn replies(&mut self, requests: &[Request], files: Files) -> Vec<Result<Reply, String>> {
         let mut replies = Vec::with_capacity(requests.len());
         let mut rest = requests;
         while !rest.is_empty() {
             let (batch, more) = rest.split_at(batch_length(rest));
             rest = more;
-            if let Err(trouble) = self.batch_asked(batch, job, &mut replies) {
+            if let Err(trouble) = self.batch_asked(batch, files, &mut replies) {
                 replies.push(Err(trouble));
                 break;
             }
@@ -45,7 +45,7 @@ impl Pipe {
     fn batch_asked(
         &mut self,
         batch: &[Request],
-        job: &[u8],
+        files: Files,
         replies: &mut Vec<Result<Reply, String>>,
     ) -> Result<(), String> {
         // Held only while it answers: one that stopped is not asked again.
@@ -55,7 +55,7 @@ impl Pipe {
         };
         let mut bytes = Vec::new();
         for request in batch {
-            request.append_to(&mut bytes, job);
+            request.append_to(&mut bytes, files);
         }
         running.write(&bytes);
         for request in batch {
@@ -85,10 +85,11 @@ impl Pipe {
     pub(super) fn answer(
         &mut self,
         call: Call,
-        job: &[u8],
+        files: Files,
         outputs: [&mut [u8]; 2],
     ) -> Result<u64, String> {
-        let reply = self.replies(&[Request { call, fill: 0 }], job).remove(0)?;
+        let request = Request { call, fill: 0 };
+        let reply = self.replies(&[request], files).remove(0)?;
         let written = call.written(reply.answer);
         if (0..2).any(|k| written[k] > reply.outputs[k].len()) {
             let command = &self.command;
@@ -142,6 +143,11 @@ mod tests {
         fill: 0,
     };
 
+    const FILES: Files = Files {
+        figure: b"FIG",
+        job: b"SRJ",
+    };
+
     fn pipe_to(text: &str) -> Pipe {
         Pipe::started(CommandLine::split(text).unwrap()).unwrap()
     }
@@ -164,7 +170,7 @@ mod tests {
     fn a_program_that_ends_early_is_told_and_started_again() {
         let mut pipe = pipe_to("false");
         for _ in 0..2 {
-            let replies = pipe.replies(&[ROOMY; 3], b"SRJ");
+            let replies = pipe.replies(&[ROOMY; 3], FILES);
             assert_eq!(replies.len(), 1, "the first call is the only one told");
             let trouble = replies[0].as_ref().unwrap_err();
             assert!(
@@ -177,7 +183,7 @@ mod tests {
     #[test]
     fn a_program_that_stops_within_a_reply_is_told() {
         let mut pipe = pipe_to("sh\n-c\nprintf 12345");
-        let trouble = pipe.replies(&[ROOMY], b"SRJ").remove(0).unwrap_err();
+        let trouble = pipe.replies(&[ROOMY], FILES).remove(0).unwrap_err();
         assert!(trouble.contains("5 of 639 bytes came"), "{trouble}");
     }
 
@@ -187,7 +193,7 @@ mod tests {
         let mut pipe = pipe_to("sh\n-c\nprintf '\\4\\0\\0\\0\\0\\0\\0\\0abc'");
         let mut out = *b"...";
         let call = Call::SheetText { out_len: 3 };
-        let trouble = pipe.answer(call, b"SRJ", [&mut out, &mut []]).unwrap_err();
+        let trouble = pipe.answer(call, FILES, [&mut out, &mut []]).unwrap_err();
         assert!(trouble.contains("more bytes than it was lent"), "{trouble}");
         assert_eq!(&out, b"...");
     }
@@ -195,7 +201,7 @@ mod tests {
     #[test]
     fn a_program_that_does_not_end_with_its_input_is_ended() {
         let mut pipe = pipe_to("sh\n-c\nexec >&-; exec sleep 60");
-        let trouble = pipe.replies(&[ROOMY], b"SRJ").remove(0).unwrap_err();
+        let trouble = pipe.replies(&[ROOMY], FILES).remove(0).unwrap_err();
         assert!(trouble.contains("signal: 9"), "{trouble}");
     }
 

@@ -1,9 +1,10 @@
-//! A call as bytes, all numbers little-endian. A request is a header of 16 bytes
-//! and then the job's:
+//! A call as bytes, all numbers little-endian. A request is a header of 18 bytes,
+//! then the figure's and then the job's:
 //!
 //! ```text
 //! 0   u8    1 reduce, 2 run count, 3 run number, 4 round layout,
-//!           5 rectangular layout, 6 sheet text
+//!           5 rectangular layout, 6 sheet text, 7 reduce by figure,
+//!           8 sheet text by figure
 //! 1   u8    what every byte of the outputs holds before the call
 //! 2   u16   the run; the index; the points
 //! 4   u16   the diameter; the first side
@@ -11,6 +12,7 @@
 //! 8   u16   the length of the lines, or of the only output
 //! 10  u16   the length of the findings, at most 4,096
 //! 12  u32   the length of the job, at most 65,536
+//! 16  u16   the length of the figure, at most 4,096
 //! ```
 //!
 //! The reply to it is the answer as a u64 and then the outputs, each at its whole
@@ -28,6 +30,18 @@ const MOST_OUTPUT: [usize; 2] = [65_535, 4_096];
 /// changes an answer (theorem `prefix`), so a longer one is cut.
 const MOST_JOB: usize = 65_536;
 
+/// The longest figure that is sent. A figure has at most 135 bytes and is refused
+/// at the first byte too many, so a longer one is cut.
+const MOST_FIGURE: usize = 4_096;
+
+/// The files that a call is made on. One that takes no figure looks at none, and
+/// a layout at no job either.
+#[derive(Clone, Copy, Debug, PartialEq, Eq)]
+pub struct Files<'a> {
+    pub figure: &'a [u8],
+    pub job: &'a [u8],
+}
+
 /// A call, and what every byte of its outputs holds before it.
 #[derive(Clone, Copy, Debug, PartialEq, Eq)]
 pub struct Request {
@@ -44,7 +58,7 @@ pub struct Reply {
 }
 
 impl Request {
-    pub(super) fn append_to(self, bytes: &mut Vec<u8>, job: &[u8]) {
+    pub(super) fn append_to(self, bytes: &mut Vec<u8>, files: Files) {
         let (number, arguments) = match self.call {
             Call::Reduce { run, .. } => (1, [run, 0, 0]),
             Call::RunCount => (2, [0; 3]),
@@ -62,14 +76,19 @@ impl Request {
                 ..
             } => (5, [points, first, second]),
             Call::SheetText { .. } => (6, [0; 3]),
+            Call::ReduceByFigure { run, .. } => (7, [run, 0, 0]),
+            Call::SheetTextByFigure { .. } => (8, [0; 3]),
         };
         let lengths = self.sent_lengths().map(|length| length as u16);
-        let job = &job[..job.len().min(MOST_JOB)];
+        let figure = cut(files.figure, MOST_FIGURE);
+        let job = cut(files.job, MOST_JOB);
         bytes.extend([number, self.fill]);
         for word in arguments.into_iter().chain(lengths) {
             bytes.extend(word.to_le_bytes());
         }
         bytes.extend((job.len() as u32).to_le_bytes());
+        bytes.extend((figure.len() as u16).to_le_bytes());
+        bytes.extend(figure);
         bytes.extend(job);
     }
 
@@ -93,13 +112,32 @@ impl Request {
     }
 }
 
+fn cut(file: &[u8], most: usize) -> &[u8] {
+    &file[..file.len().min(most)]
+}
+
 #[cfg(test)]
 mod tests {
     use super::*;
 
-    fn bytes_of(call: Call, fill: u8, job: &[u8]) -> Vec<u8> {
+    const NO_FILES: Files = Files {
+        figure: &[],
+        job: &[],
+    };
+
+    const JOB_ALONE: Files = Files {
+        figure: &[],
+        job: b"SRJ",
+    };
+
+    const BOTH: Files = Files {
+        figure: b"FIG\x01",
+        job: b"SRJ",
+    };
+
+    fn bytes_of(call: Call, fill: u8, files: Files) -> Vec<u8> {
         let mut bytes = vec![];
-        Request { call, fill }.append_to(&mut bytes, job);
+        Request { call, fill }.append_to(&mut bytes, files);
         bytes
     }
 
@@ -114,8 +152,22 @@ mod tests {
             lines_len: 180,
             findings_len: 420,
         };
-        let header = [1, 0x5A, 1, 2, 0, 0, 0, 0, 180, 0, 0xA4, 1, 3, 0, 0, 0];
-        assert_eq!(bytes_of(call, 0x5A, b"SRJ"), [&header[..], b"SRJ"].concat());
+        let header = [1, 0x5A, 1, 2, 0, 0, 0, 0, 180, 0, 0xA4, 1, 3, 0, 0, 0, 0, 0];
+        let bytes = bytes_of(call, 0x5A, JOB_ALONE);
+        assert_eq!(bytes, [&header[..], b"SRJ"].concat());
+        assert_eq!(reply_length_of(call), 8 + 180 + 420);
+    }
+
+    #[test]
+    fn a_reduce_by_figure_as_bytes() {
+        let call = Call::ReduceByFigure {
+            run: 0x0201,
+            lines_len: 180,
+            findings_len: 420,
+        };
+        let header = [7, 0x5A, 1, 2, 0, 0, 0, 0, 180, 0, 0xA4, 1, 3, 0, 0, 0, 4, 0];
+        let bytes = bytes_of(call, 0x5A, BOTH);
+        assert_eq!(bytes, [&header[..], b"FIG\x01SRJ"].concat());
         assert_eq!(reply_length_of(call), 8 + 180 + 420);
     }
 
@@ -127,16 +179,26 @@ mod tests {
             second: 400,
             out_len: 72,
         };
-        let bytes = [5, 0, 9, 0, 44, 1, 144, 1, 72, 0, 0, 0, 0, 0, 0, 0];
-        assert_eq!(bytes_of(call, 0, &[]), bytes);
+        let bytes = [5, 0, 9, 0, 44, 1, 144, 1, 72, 0, 0, 0, 0, 0, 0, 0, 0, 0];
+        assert_eq!(bytes_of(call, 0, NO_FILES), bytes);
         assert_eq!(reply_length_of(call), 8 + 72);
     }
 
     #[test]
     fn a_text_as_bytes() {
         let call = Call::SheetText { out_len: 27_088 };
-        let header = [6, 0, 0, 0, 0, 0, 0, 0, 0xD0, 0x69, 0, 0, 3, 0, 0, 0];
-        assert_eq!(bytes_of(call, 0, b"SRJ"), [&header[..], b"SRJ"].concat());
+        let header = [6, 0, 0, 0, 0, 0, 0, 0, 0xD0, 0x69, 0, 0, 3, 0, 0, 0, 0, 0];
+        let bytes = bytes_of(call, 0, JOB_ALONE);
+        assert_eq!(bytes, [&header[..], b"SRJ"].concat());
+        assert_eq!(reply_length_of(call), 8 + 27_088);
+    }
+
+    #[test]
+    fn a_text_by_figure_as_bytes() {
+        let call = Call::SheetTextByFigure { out_len: 27_088 };
+        let header = [8, 0, 0, 0, 0, 0, 0, 0, 0xD0, 0x69, 0, 0, 3, 0, 0, 0, 4, 0];
+        let bytes = bytes_of(call, 0, BOTH);
+        assert_eq!(bytes, [&header[..], b"FIG\x01SRJ"].concat());
         assert_eq!(reply_length_of(call), 8 + 27_088);
     }
 
@@ -147,16 +209,31 @@ mod tests {
             lines_len: 65_536,
             findings_len: 70_000,
         };
-        let bytes = bytes_of(call, 0, &[]);
+        let bytes = bytes_of(call, 0, NO_FILES);
         assert_eq!(bytes[8..12], [0xFF, 0xFF, 0, 0x10]);
         assert_eq!(reply_length_of(call), 8 + 65_535 + 4_096);
     }
 
     #[test]
     fn a_longer_job_is_cut() {
-        let bytes = bytes_of(Call::RunCount, 0, &[7; 65_537]);
-        assert_eq!(bytes[12..16], [0, 0, 1, 0]);
-        assert_eq!(bytes.len(), 16 + 65_536);
+        let files = Files {
+            figure: &[],
+            job: &[7; 65_537],
+        };
+        let bytes = bytes_of(Call::RunCount, 0, files);
+        assert_eq!(bytes[12..18], [0, 0, 1, 0, 0, 0]);
+        assert_eq!(bytes.len(), 18 + 65_536);
+    }
+
+    #[test]
+    fn a_longer_figure_is_cut_and_the_job_stands_behind_it() {
+        let files = Files {
+            figure: &[7; 4_097],
+            job: b"SRJ",
+        };
+        let bytes = bytes_of(Call::SheetTextByFigure { out_len: 0 }, 0, files);
+        assert_eq!(bytes[12..18], [3, 0, 0, 0, 0, 0x10]);
+        assert_eq!(bytes[18..], [&[7; 4_096][..], b"SRJ"].concat());
     }
 
     #[test]

@@ -6,6 +6,7 @@ use std::sync::{Mutex, MutexGuard, PoisonError};
 use super::call::Call;
 use super::client::Pipe;
 use super::command::CommandLine;
+use super::request::Files;
 
 const VARIABLE: &str = "LEVERBONNET_CALLS";
 
@@ -19,13 +20,13 @@ fn held() -> MutexGuard<'static, Option<Pipe>> {
 }
 
 /// Makes the call.
-pub fn answer(call: Call, job: &[u8], outputs: [&mut [u8]; 2]) -> Result<u64, String> {
+pub fn answer(call: Call, files: Files, outputs: [&mut [u8]; 2]) -> Result<u64, String> {
     let mut shared = held();
     let mut pipe = match shared.take() {
         Some(pipe) => pipe,
         None => Pipe::started(named()?)?,
     };
-    let answer = pipe.answer(call, job, outputs)?;
+    let answer = pipe.answer(call, files, outputs)?;
     *shared = Some(pipe);
     Ok(answer)
 }

@@ -6,31 +6,35 @@ use crate::versions::in_either_version;
 use crate::{SEVERAL_RUNS, WORKED};
 
 /// Numbers that look random and are the same in every test.
-struct Numbers(u64);
+pub struct Numbers(pub u64);
 
 impl Numbers {
-    fn next(&mut self) -> u64 {
+    pub fn next(&mut self) -> u64 {
         self.0 ^= self.0 << 13;
         self.0 ^= self.0 >> 7;
         self.0 ^= self.0 << 17;
         self.0
     }
 
-    fn below(&mut self, bound: usize) -> usize {
+    pub fn below(&mut self, bound: usize) -> usize {
         (self.next() % bound as u64) as usize
+    }
+
+    /// A place that is none of the file's, or one that may be.
+    pub fn place(&mut self, file: &[u8]) -> u32 {
+        match self.below(8) {
+            0 => self.next() as u32,
+            1 => u32::MAX,
+            2 => file.len() as u32,
+            _ => self.below(file.len() + 2) as u32,
+        }
     }
 
     /// A refusal that fits no job, or one that may.
     fn refusal(&mut self, job: &[u8]) -> Refusal {
-        let place = match self.below(8) {
-            0 => self.next() as u32,
-            1 => u32::MAX,
-            2 => job.len() as u32,
-            _ => self.below(job.len() + 2) as u32,
-        };
         Refusal {
-            number: self.below(13) as u32,
-            place,
+            number: self.below(16) as u32,
+            place: self.place(job),
         }
     }
 }
@@ -83,7 +87,7 @@ fn the_longest_counts_end_with_the_file() {
         let mut job = b"SRJ\x01\0\xff\xff\xff\xff".to_vec();
         job.resize(2_000_000, 255);
         job[3] = version;
-        for number in 1..=texts::REFUSALS.len() as u32 {
+        for number in texts::REFUSALS.iter().map(|refusal| refusal.number) {
             for place in [0, 9, runs, 1_999_999, 2_000_000] {
                 assert_says_something(Refusal { number, place }, &job);
             }

@@ -1,8 +1,10 @@
-//! What a refusal says of the job that it was given for, in either version.
+//! What a refusal says of the job that it was given for, in either version, or of the
+//! figure.
 
 mod any_bytes;
 mod changed_bytes;
 mod early_ends;
+mod figures;
 mod letters;
 mod other_refusals;
 mod versions;
@@ -37,13 +39,13 @@ fn told(job: &[u8]) -> String {
     }
 }
 
-/// The job with these bytes at that place.
-fn changed(job: &[u8], place: usize, bytes: &[u8]) -> Vec<u8> {
-    let mut job = job.to_vec();
-    job[place..place + bytes.len()].copy_from_slice(bytes);
-    job
+/// The file with these bytes at that place.
+fn changed(file: &[u8], place: usize, bytes: &[u8]) -> Vec<u8> {
+    let mut file = file.to_vec();
+    file[place..place + bytes.len()].copy_from_slice(bytes);
+    file
 }
 
-fn with_number(job: &[u8], place: usize, number: u16) -> Vec<u8> {
-    changed(job, place, &number.to_le_bytes())
+fn with_number(file: &[u8], place: usize, number: u16) -> Vec<u8> {
+    changed(file, place, &number.to_le_bytes())
 }
