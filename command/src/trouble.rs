@@ -13,6 +13,13 @@ pub fn in_job(refusal: &Refusal, job: &[u8]) -> String {
     format!("{} ({number} at byte {place}).", refusal.in_job(job))
 }
 
+/// What is wrong with a refused figure and where, as the end of a sentence.
+pub fn in_figure(refusal: &Refusal, figure: &[u8]) -> String {
+    let (number, place) = (refusal.number, refusal.place);
+    let clause = refusal.in_figure(figure);
+    format!("{clause} ({number} at byte {place} of the figure).")
+}
+
 /// A sentence for calls that were not made.
 pub fn unreached(why: &str) -> String {
     format!("the proved calls can not be reached: {why}.")

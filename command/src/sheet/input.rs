@@ -1,4 +1,4 @@
-//! Where a job is read from, and its bytes.
+//! Where a job or a figure is read from, and its bytes.
 
 use std::fs::File;
 use std::io::{self, Read};
@@ -8,8 +8,8 @@ use std::os::unix::io::AsRawFd;
 
 use words::{standard, Source};
 
-/// As much as is read of a file. Nothing past the first 17,274 bytes of a job
-/// changes an answer, so that an endless input has one too.
+/// As much as is read of a file. Nothing past the first 17,274 bytes of a job or the
+/// first 136 of a figure changes an answer, so that an endless input has one too.
 const MOST: u64 = 65_536;
 
 extern "C" {
@@ -32,21 +32,24 @@ pub fn shown(source: &Source) -> String {
     }
 }
 
-/// The bytes of a job, as far as they count.
-pub fn read(source: &Source) -> io::Result<Vec<u8>> {
+/// The bytes of a file, as far as they count. What it is, a job or a figure, is said
+/// to whoever has to type it.
+pub fn read(source: &Source, what: &str) -> io::Result<Vec<u8>> {
     let file = match source {
-        Source::StandardInput => standard_input()?,
+        Source::StandardInput => standard_input(what)?,
         Source::File(path) => File::open(path)?,
     };
-    let mut job = Vec::new();
-    file.take(MOST).read_to_end(&mut job)?;
-    Ok(job)
+    let mut bytes = Vec::new();
+    file.take(MOST).read_to_end(&mut bytes)?;
+    Ok(bytes)
 }
 
-fn standard_input() -> io::Result<File> {
+fn standard_input(what: &str) -> io::Result<File> {
     let input = standard::input()?;
     if is_terminal(&input) {
-        standard::tell("the job is read from standard input, up to the end of the file.");
+        standard::tell(&format!(
+            "the {what} is read from standard input, up to the end of the file."
+        ));
     }
     Ok(input)
 }

@@ -32,13 +32,18 @@ pub fn example_text(name: &str) -> String {
 
 /// All examples whose name has that ending.
 pub fn examples(ending: &str) -> Vec<PathBuf> {
-    let files = fs::read_dir(project().join("examples")).expect("there are examples");
-    let paths = files.map(|file| file.expect("examples can be listed").path());
-    let such: Vec<PathBuf> = paths
-        .filter(|path| path.extension() == Some(OsStr::new(ending)))
-        .collect();
+    let such = with_ending(&project().join("examples"), ending);
     assert!(such.len() >= 3, "{} examples", such.len());
     such
+}
+
+/// The files of a folder whose name has that ending.
+pub fn with_ending(folder: &Path, ending: &str) -> Vec<PathBuf> {
+    let files = fs::read_dir(folder).expect("it is a folder");
+    let paths = files.map(|file| file.expect("it can be listed").path());
+    paths
+        .filter(|path| path.extension() == Some(OsStr::new(ending)))
+        .collect()
 }
 
 /// A folder with a space in its name that everybody may read. It is removed

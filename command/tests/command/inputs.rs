@@ -153,8 +153,11 @@ extern "C" {
     fn ptsname_r(terminal: c_int, name: *mut c_char, length: usize) -> c_int;
 }
 
+/// What a person types to end a file.
+pub const END_OF_FILE: &[u8] = &[4];
+
 /// A new terminal: the end that a person types at, and the program's end.
-fn terminal() -> (File, File) {
+pub fn terminal() -> (File, File) {
     let open = |path: &str| OpenOptions::new().read(true).write(true).open(path);
     let typed = open("/dev/ptmx").expect("a terminal can be had");
     let mut name = [0u8; 64];
@@ -172,7 +175,6 @@ fn terminal() -> (File, File) {
 
 #[test]
 fn at_a_terminal_a_hint_says_what_is_waited_for() {
-    const END_OF_FILE: &[u8] = &[4];
     let (mut typed, input) = terminal();
     typed.write_all(END_OF_FILE).expect("it can be typed at");
     let refused = ended(leverbonnet(&["sheet"]).stdin(input));

@@ -8,12 +8,31 @@ use crate::folder::{example, example_bytes};
 use crate::run::{ended, leverbonnet, shell, Ended};
 
 /// Everything that prints, with its status where it is written.
-const PRINTING: [(&[&str], i32); 12] = [
+const PRINTING: [(&[&str], i32); 15] = [
     (&["sheet", "examples/worked.job"], 0),
     (&["sheet", "examples/refused.job"], 2),
     (&["sheet", "--words", "examples/worked.job"], 0),
     (&["sheet", "--words", "examples/several-runs.job"], 0),
     (&["sheet", "--words", "examples/refused.job"], 2),
+    (
+        &[
+            "sheet",
+            "--figure",
+            "examples/made-up.fig",
+            "examples/fewer-points.job",
+        ],
+        0,
+    ),
+    (
+        &[
+            "sheet",
+            "--figure",
+            "examples/worked.job",
+            "examples/fewer-points.job",
+        ],
+        2,
+    ),
+    (&["sheet", "--words", "--figure", "examples/worked.job"], 2),
     (&["layout", "round", "6", "240", "250"], 0),
     (&["layout", "round", "6", "240", "250", "--svg"], 0),
     (&["layout", "rect", "10", "400", "300"], 2),

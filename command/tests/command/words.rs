@@ -17,7 +17,23 @@ fn every_complaint_is_one_sentence_and_status_1() {
         (&[""], "'' is no command"),
         (
             &["sheet", "--frob"],
-            "--frob is no option of sheet, which knows --words and --help.",
+            "--frob is no option of sheet, which knows --words, --figure FIGURE and --help.",
+        ),
+        (
+            &["sheet", "examples/worked.job", "--figure"],
+            "the word behind --figure is missing",
+        ),
+        (
+            &["sheet", "--figure", "--words", "examples/worked.job"],
+            "the word behind --figure is missing",
+        ),
+        (
+            &["sheet", "--figure", "a", "--figure", "b"],
+            "--figure can be given once.",
+        ),
+        (
+            &["sheet", "--figure=examples/made-up.fig"],
+            "--figure=examples/made-up.fig is no option of sheet, which knows --words, --figure",
         ),
         (&["sheet", "--words=no"], "--words=no is no option of sheet"),
         (
@@ -100,13 +116,15 @@ fn without_a_word_the_help_lists_them_all() {
 }
 
 #[test]
-fn the_help_of_sheets_tells_of_words() {
+fn the_help_of_sheets_tells_of_words_and_figures() {
     let help = asked(&["sheet", "--words", "--help"]).out;
-    assert!(help.starts_with("leverbonnet sheet [--words] [FILE..]\n"));
+    assert!(help.starts_with("leverbonnet sheet [--words] [--figure FIGURE] [FILE..]\n"));
     assert!(
         help.contains("--words prints each job for a person"),
         "{help}"
     );
+    assert!(help.contains("--figure reads the file FIGURE"), "{help}");
+    assert_eq!(asked(&["sheet", "--figure", "--help"]).out, help);
 }
 
 #[test]
