@@ -1,6 +1,7 @@
-//! Measures the proved library's `reduce` and `sheet_text` against the independent
-//! program's, in one run, on the same job and the same lent buffers, taking turns.
-//! The figure is a ratio, proved over independent, with its spread over the batches.
+//! Measures the proved library's `reduce` and `sheet_text`, also by a figure, against the
+//! independent program's, in one run, on the same files and the same lent buffers, taking
+//! turns. What is shown is a ratio, proved over independent, with its spread over the
+//! batches.
 //!
 //! The proved library's archive is for x86-64, and so is all of this.
 
@@ -36,15 +37,25 @@ fn subjects() -> Vec<Subject> {
     let mut left_over = longest.clone();
     left_over.push(0);
 
+    let figure = samples::made_up().bytes();
+    let mut refused_figure = figure.clone();
+    refused_figure.push(0);
+
     let reduce = |name, job, run| Subject {
         name,
+        figure: None,
         job,
         call: Call::Reduce { run },
     };
     let text = |name, job| Subject {
         name,
+        figure: None,
         job,
         call: Call::SheetText,
+    };
+    let by = |figure: &[u8], subject| Subject {
+        figure: Some(figure.to_vec()),
+        ..subject
     };
     let worked = samples::worked().bytes();
     vec![
@@ -63,8 +74,21 @@ fn subjects() -> Vec<Subject> {
         ),
         reduce("refused early: wrong mark", bad_mark, first),
         reduce("refused at its end: a byte left over", left_over, first),
-        text("text of the worked job", worked),
-        text("text of the longest job", longest),
+        text("text of the worked job", worked.clone()),
+        text("text of the longest job", longest.clone()),
         text("text of the longest job of version 2", longest_2),
+        by(&figure, reduce("worked job by a figure", worked.clone(), 7)),
+        by(
+            &figure,
+            reduce("longest job, last run, by a figure", longest.clone(), last),
+        ),
+        by(
+            &refused_figure,
+            reduce("refused figure: a byte left over", worked.clone(), 7),
+        ),
+        by(
+            &figure,
+            text("text of the worked job by a figure", worked.clone()),
+        ),
     ]
 }

@@ -19,6 +19,8 @@ const FINDINGS_LENGTH: usize = 392;
 
 pub struct Subject {
     pub name: &'static str,
+    /// None for the call without one.
+    pub figure: Option<Vec<u8>>,
     pub job: Vec<u8>,
     pub call: Call,
 }
@@ -30,17 +32,25 @@ pub enum Call {
 
 struct Side {
     reduce: fn(&[u8], u16, &mut [u8], &mut [u8]) -> u64,
+    reduce_by_figure: ReduceByFigure,
     sheet_text: fn(&[u8], &mut [u8]) -> u64,
+    sheet_text_by_figure: fn(&[u8], &[u8], &mut [u8]) -> u64,
 }
+
+type ReduceByFigure = fn(&[u8], &[u8], u16, &mut [u8], &mut [u8]) -> u64;
 
 const PROVED: Side = Side {
     reduce: linked::reduce,
+    reduce_by_figure: linked::reduce_by_figure,
     sheet_text: linked::sheet_text,
+    sheet_text_by_figure: linked::sheet_text_by_figure,
 };
 
 const INDEPENDENT: Side = Side {
     reduce: independent::reduce,
+    reduce_by_figure: independent::reduce_by_figure,
     sheet_text: independent::sheet_text,
+    sheet_text_by_figure: independent::sheet_text_by_figure,
 };
 
 struct Buffers {
@@ -96,14 +106,19 @@ pub fn measured(subject: &Subject) -> Measured {
 
 fn called(side: &Side, subject: &Subject, buffers: &mut Buffers) -> u64 {
     let job = black_box(&subject.job[..]);
-    black_box(match subject.call {
-        Call::Reduce { run } => (side.reduce)(
-            job,
-            black_box(run),
-            &mut buffers.lines,
-            &mut buffers.findings,
-        ),
-        Call::SheetText => (side.sheet_text)(job, &mut buffers.text),
+    let figure = black_box(subject.figure.as_deref());
+    let Buffers {
+        lines,
+        findings,
+        text,
+    } = buffers;
+    black_box(match (&subject.call, figure) {
+        (Call::Reduce { run }, None) => (side.reduce)(job, black_box(*run), lines, findings),
+        (Call::Reduce { run }, Some(figure)) => {
+            (side.reduce_by_figure)(figure, job, black_box(*run), lines, findings)
+        }
+        (Call::SheetText, None) => (side.sheet_text)(job, text),
+        (Call::SheetText, Some(figure)) => (side.sheet_text_by_figure)(figure, job, text),
     })
 }
 

@@ -1,19 +1,21 @@
 //! The same calls with the same lent bytes on both sides, or on a job and its twin in
 //! the other version, and where they part.
 
-use leverbonnet::pipe::Call;
+use leverbonnet::pipe::{Call, Files};
 
-use crate::call::{Outcome, Side, Trial};
+use crate::call::{only, Outcome, Side, Trial};
 use crate::case::Expected;
 use crate::proved::Proved;
 
 pub const INDEPENDENT: Side = Side {
     reduce: independent::reduce,
+    reduce_by_figure: independent::reduce_by_figure,
     run_count: independent::run_count,
     run_number: independent::run_number,
     round_layout: independent::round_layout,
     rect_layout: independent::rect_layout,
     sheet_text: independent::sheet_text,
+    sheet_text_by_figure: independent::sheet_text_by_figure,
 };
 
 /// Where two that should give the same part, and what each gave.
@@ -41,15 +43,15 @@ impl Difference {
 
 /// What both sides give for each call under one fill, when they agree in every
 /// byte under two.
-pub fn agreed(proved: &Proved, calls: &[Call], job: &[u8]) -> Result<Vec<Outcome>, Difference> {
+pub fn agreed(proved: &Proved, calls: &[Call], files: Files) -> Result<Vec<Outcome>, Difference> {
     let fills = proved.fills();
     let trials: Vec<Trial> = calls
         .iter()
         .flat_map(|&call| fills.map(|fill| Trial { call, fill }))
         .collect();
     let mut outcomes = Vec::with_capacity(trials.len());
-    for (trial, proved) in trials.iter().zip(proved.made(&trials, job)) {
-        let independent = trial.made(&INDEPENDENT, job);
+    for (trial, proved) in trials.iter().zip(proved.made(&trials, files)) {
+        let independent = trial.made(&INDEPENDENT, files);
         if proved.as_ref() != Ok(&independent) {
             let (what, independent) = (trial.to_string(), independent.to_string());
             return Err(Difference::of_sides(what, &told(proved), &independent));
@@ -79,7 +81,7 @@ pub fn agreed_on_twin(
         .iter()
         .map(|&(call, _)| Trial { call, fill })
         .collect();
-    let on_twin = proved.made(&trials, twin);
+    let on_twin = proved.made(&trials, only(twin));
     for ((trial, &(_, on_job)), on_twin) in trials.iter().zip(on_job).zip(on_twin) {
         if on_twin.as_ref() != Ok(on_job) {
             return Err(Difference {
@@ -95,10 +97,10 @@ pub fn agreed_on_twin(
 pub fn agreed_as_expected(
     proved: &Proved,
     calls: &[(Call, Expected)],
-    job: &[u8],
+    files: Files,
 ) -> Result<Vec<Outcome>, Difference> {
     let made: Vec<Call> = calls.iter().map(|&(call, _)| call).collect();
-    let outcomes = agreed(proved, &made, job)?;
+    let outcomes = agreed(proved, &made, files)?;
     for (&(call, expected), outcome) in calls.iter().zip(&outcomes) {
         let refusal = outcome.refusal();
         if !expected.admits(refusal) {

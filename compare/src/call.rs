@@ -2,7 +2,7 @@
 
 use std::fmt;
 
-use leverbonnet::pipe::{Call, Reply, Request};
+use leverbonnet::pipe::{Call, Files, Reply, Request};
 
 /// What a reduced run's outputs take.
 pub const LINE_COUNT: usize = 20;
@@ -17,15 +17,51 @@ const ACCEPTED: u32 = 65_536;
 /// them.
 const GUARD: usize = 32;
 
-/// The six calls of a side that is part of this program.
+/// The eight calls of a side that is part of this program.
 pub struct Side {
     pub reduce: fn(&[u8], u16, &mut [u8], &mut [u8]) -> u64,
+    pub reduce_by_figure: ReduceByFigure,
     pub run_count: fn(&[u8]) -> u64,
     pub run_number: fn(&[u8], u16) -> u64,
     pub round_layout: fn(u16, u16, u16, &mut [u8]) -> u64,
     pub rect_layout: fn(u16, u16, u16, &mut [u8]) -> u64,
     pub sheet_text: fn(&[u8], &mut [u8]) -> u64,
+    pub sheet_text_by_figure: fn(&[u8], &[u8], &mut [u8]) -> u64,
 }
+
+pub type ReduceByFigure = fn(&[u8], &[u8], u16, &mut [u8], &mut [u8]) -> u64;
+
+/// A job without a figure.
+pub fn only(job: &[u8]) -> Files<'_> {
+    Files { figure: &[], job }
+}
+
+/// The two calls that there are without a figure and by one.
+#[derive(Clone, Copy)]
+pub struct Pair {
+    /// By the run's number and the lengths of lines and findings.
+    pub reduce: fn(u16, usize, usize) -> Call,
+    /// By the output's length.
+    pub text: fn(usize) -> Call,
+}
+
+pub const WITHOUT_FIGURE: Pair = Pair {
+    reduce: |run, lines_len, findings_len| Call::Reduce {
+        run,
+        lines_len,
+        findings_len,
+    },
+    text: |out_len| Call::SheetText { out_len },
+};
+
+pub const BY_FIGURE: Pair = Pair {
+    reduce: |run, lines_len, findings_len| Call::ReduceByFigure {
+        run,
+        lines_len,
+        findings_len,
+    },
+    text: |out_len| Call::SheetTextByFigure { out_len },
+};
 
 /// An answer, and every lent buffer with its guards as the call left it.
 #[derive(Clone, Debug, PartialEq, Eq)]
@@ -123,13 +159,17 @@ pub struct Trial {
 
 impl Trial {
     /// Makes the call on a side.
-    pub fn made(&self, side: &Side, job: &[u8]) -> Outcome {
+    pub fn made(&self, side: &Side, files: Files) -> Outcome {
+        let Files { figure, job } = files;
         let mut lent = self.lent();
         let answer = match (self.call, &mut lent[..]) {
             (Call::RunCount, []) => (side.run_count)(job),
             (Call::RunNumber { index }, []) => (side.run_number)(job, index),
             (Call::Reduce { run, .. }, [lines, findings]) => {
                 (side.reduce)(job, run, lines.middle(), findings.middle())
+            }
+            (Call::ReduceByFigure { run, .. }, [lines, findings]) => {
+                (side.reduce_by_figure)(figure, job, run, lines.middle(), findings.middle())
             }
             (
                 Call::RoundLayout {
@@ -150,6 +190,9 @@ impl Trial {
                 [out],
             ) => (side.rect_layout)(points, first, second, out.middle()),
             (Call::SheetText { .. }, [out]) => (side.sheet_text)(job, out.middle()),
+            (Call::SheetTextByFigure { .. }, [out]) => {
+                (side.sheet_text_by_figure)(figure, job, out.middle())
+            }
             _ => unreachable!("each call is lent its own outputs"),
         };
         Outcome { answer, lent }

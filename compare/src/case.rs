@@ -8,6 +8,12 @@ pub struct Case {
     pub expected: Expected,
 }
 
+/// A case to be worked by a figure. What is expected of it goes for both files.
+pub struct ByFigure {
+    pub figure: Vec<u8>,
+    pub case: Case,
+}
+
 /// A job made from values, then changed byte by byte.
 #[derive(Clone)]
 pub struct Subject {
@@ -51,17 +57,29 @@ impl Case {
     }
 }
 
+impl ByFigure {
+    pub fn of_job(name: String, figure: Vec<u8>, job: Job, expected: Expected) -> Self {
+        ByFigure {
+            figure,
+            case: Case::of_job(name, job, expected),
+        }
+    }
+}
+
 impl Subject {
     pub fn bytes(&self) -> Vec<u8> {
-        let mut bytes = self.job.bytes();
-        for change in &self.changes {
-            change.apply(&mut bytes);
-        }
-        bytes
+        Change::all_applied(&self.changes, self.job.bytes())
     }
 }
 
 impl Change {
+    pub fn all_applied(changes: &[Change], mut bytes: Vec<u8>) -> Vec<u8> {
+        for change in changes {
+            change.apply(&mut bytes);
+        }
+        bytes
+    }
+
     fn apply(&self, bytes: &mut Vec<u8>) {
         match self {
             Change::Set { at, value } => {

@@ -1,15 +1,19 @@
 //! Everything that is compared on one job: each call of the library in several
 //! ways, its runs with those of its twin in the other version, but for moved factors,
-//! or the program's printed sheet.
+//! or the program's printed sheet; and on one job by a figure.
+
+mod by_figure;
+
+pub use by_figure::by_figure;
 
 use std::io::{self, Write};
 use std::process::Stdio;
 
 use independent::job::{Job, Run, Version};
-use leverbonnet::pipe::{Call, CommandLine};
+use leverbonnet::pipe::{Call, CommandLine, Files};
 
 use crate::agreement::{agreed, agreed_as_expected, agreed_on_twin, Difference};
-use crate::call::{Outcome, FINDING_LENGTH, LINES_LENGTH};
+use crate::call::{only, Outcome, Pair, FINDING_LENGTH, LINES_LENGTH, WITHOUT_FIGURE};
 use crate::case::Expected;
 use crate::proved::Proved;
 use crate::tally::Tally;
@@ -25,11 +29,12 @@ const TEXT_TO_SPARE: usize = 11;
 /// Answers the number of its refusal, 0 if it is read.
 pub fn library(proved: &Proved, job: &[u8], tally: &mut Tally) -> Result<u32, Difference> {
     tally.jobs += 1;
-    let counted = agreed(proved, &[Call::RunCount], job)?.remove(0);
+    let files = only(job);
+    let counted = agreed(proved, &[Call::RunCount], files)?.remove(0);
     tally.count(&counted);
     let read = independent::read(job);
     let mut others = match &read {
-        Ok(read) => reduced(proved, job, read, tally)?,
+        Ok(read) => reduced(proved, files, read, tally)?,
         Err(_) => {
             tally.count_refused(job, &counted);
             vec![]
@@ -38,16 +43,13 @@ pub fn library(proved: &Proved, job: &[u8], tally: &mut Tally) -> Result<u32, Di
     let runs = read.map_or(vec![], |job| job.runs);
     let indexes = (0..=runs.len() as u16).chain([u16::MAX]);
     others.extend(indexes.map(|index| Call::RunNumber { index }));
-    let next = runs.last().map_or(7, |last| last.number + 1);
-    others.extend([0, next, u16::MAX].map(|absent| reduce(absent, 0, ROOMY_FINDINGS)));
-    for outcome in agreed(proved, &others, job)? {
+    others.extend([0, absent(&runs), u16::MAX].map(|run| unread(WITHOUT_FIGURE, run)));
+    for outcome in agreed(proved, &others, files)? {
         tally.count(&outcome);
     }
-    let texts = match counted.refusal() {
-        0 => texts_about_need(independent::sheet(job).len()),
-        number => texts_refused(number),
-    };
-    for outcome in agreed_as_expected(proved, &texts, job)? {
+    let needed = independent::sheet(job).len();
+    let texts = texts(WITHOUT_FIGURE, counted.refusal(), needed);
+    for outcome in agreed_as_expected(proved, &texts, files)? {
         tally.count_text(&outcome);
     }
     Ok(counted.refusal())
@@ -57,21 +59,19 @@ pub fn library(proved: &Proved, job: &[u8], tally: &mut Tally) -> Result<u32, Di
 /// them with outputs about their need.
 fn reduced(
     proved: &Proved,
-    job: &[u8],
+    files: Files,
     read: &Job,
     tally: &mut Tally,
 ) -> Result<Vec<Call>, Difference> {
-    let numbers = read.runs.iter().map(|run| run.number);
-    let roomy: Vec<Call> = numbers
-        .map(|number| reduce(number, ROOMY_LINES, ROOMY_FINDINGS))
-        .collect();
-    let reduced = agreed(proved, &roomy, job)?;
+    let roomy = roomy(WITHOUT_FIGURE, &read.runs);
+    let reduced = agreed(proved, &roomy, files)?;
     let in_twin = compared_with_twin(proved, read, &roomy, &reduced)?;
     let mut others = Vec::new();
     for ((run, reduced), in_twin) in read.runs.iter().zip(&reduced).zip(in_twin) {
         void_where_moved(read, run, reduced)?;
         tally.count_reduced(read, run, in_twin, reduced);
-        others.extend(about_need(run.number, FINDING_LENGTH * reduced.findings()));
+        let findings_len = FINDING_LENGTH * reduced.findings();
+        others.extend(about_need(run.number, findings_len));
     }
     Ok(others)
 }
@@ -109,42 +109,53 @@ fn void_where_moved(job: &Job, run: &Run, reduced: &Outcome) -> Result<(), Diffe
     }
 }
 
+/// The runs with room to spare.
+fn roomy(pair: Pair, runs: &[Run]) -> Vec<Call> {
+    let numbers = runs.iter().map(|run| run.number);
+    numbers
+        .map(|number| (pair.reduce)(number, ROOMY_LINES, ROOMY_FINDINGS))
+        .collect()
+}
+
+/// The number of a run that is not there, also where there are none.
+fn absent(runs: &[Run]) -> u16 {
+    runs.last().map_or(7, |last| last.number + 1)
+}
+
+/// A run that is not there, or whose job is not read, with too short an output.
+fn unread(pair: Pair, run: u16) -> Call {
+    (pair.reduce)(run, 0, ROOMY_FINDINGS)
+}
+
 /// The text of that length with room to spare, in an output that just serves, in
-/// one a byte too short, and in none.
-fn texts_about_need(needed: usize) -> Vec<(Call, Expected)> {
-    let text = |out_len, expected| (Call::SheetText { out_len }, expected);
-    vec![
-        text(needed + TEXT_TO_SPARE, Expected::Read),
-        text(needed, Expected::Read),
-        text(needed - 1, Expected::Refused(9)),
-        text(0, Expected::Refused(9)),
-    ]
-}
-
-/// A job that is refused with that number has no text to need any length.
-fn texts_refused(number: u32) -> Vec<(Call, Expected)> {
-    [TEXT_TO_SPARE, 0]
-        .map(|out_len| (Call::SheetText { out_len }, Expected::Refused(number)))
-        .to_vec()
-}
-
-fn reduce(run: u16, lines_len: usize, findings_len: usize) -> Call {
-    Call::Reduce {
-        run,
-        lines_len,
-        findings_len,
+/// one a byte too short, and in none. Where it is refused with a number, no length is
+/// needed.
+fn texts(pair: Pair, refusal: u32, needed: usize) -> Vec<(Call, Expected)> {
+    let text = |out_len, expected| ((pair.text)(out_len), expected);
+    match refusal {
+        0 => vec![
+            text(needed + TEXT_TO_SPARE, Expected::Read),
+            text(needed, Expected::Read),
+            text(needed - 1, Expected::Refused(9)),
+            text(0, Expected::Refused(9)),
+        ],
+        number => vec![
+            text(TEXT_TO_SPARE, Expected::Refused(number)),
+            text(0, Expected::Refused(number)),
+        ],
     }
 }
 
 /// The run with the shortest outputs that serve, and with either one byte too
 /// short.
 fn about_need(run: u16, findings_len: usize) -> Vec<Call> {
+    let reduce = |lines_len, findings_len| (WITHOUT_FIGURE.reduce)(run, lines_len, findings_len);
     let mut calls = vec![
-        reduce(run, LINES_LENGTH, findings_len),
-        reduce(run, LINES_LENGTH - 1, findings_len),
+        reduce(LINES_LENGTH, findings_len),
+        reduce(LINES_LENGTH - 1, findings_len),
     ];
     if findings_len > 0 {
-        calls.push(reduce(run, LINES_LENGTH, findings_len - 1));
+        calls.push(reduce(LINES_LENGTH, findings_len - 1));
     }
     calls
 }
@@ -286,7 +297,7 @@ mod tests {
                 job.version = Version::One;
                 let mut runs = job.runs.iter();
                 let run = runs.find(|run| run.number == number);
-                let worked = work(&job, run.expect("it was reduced"));
+                let worked = work(None, &job, run.expect("it was reduced"));
                 let written = worked.write(lines, &mut [0; ROOMY_FINDINGS]);
                 written.expect("there is room");
             }
@@ -333,9 +344,9 @@ mod tests {
         };
         let job = moved_factor(version);
         let runs = job.runs.iter().filter(|run| {
-            let call = reduce(run.number, ROOMY_LINES, ROOMY_FINDINGS);
+            let call = (WITHOUT_FIGURE.reduce)(run.number, ROOMY_LINES, ROOMY_FINDINGS);
             let fill = Fill::Pattern;
-            let accepted = Trial { call, fill }.made(&accepting, &job.bytes());
+            let accepted = Trial { call, fill }.made(&accepting, only(&job.bytes()));
             void_where_moved(&job, run, &accepted).is_err()
         });
         runs.map(|run| run.number).collect()

@@ -14,7 +14,26 @@ pub struct Extent {
     /// Each diameter with every count of points, or with one; and sizes about
     /// their limits with wrong counts of points all, or some.
     pub every_pairing: bool,
+    pub figures: Figures,
     pub sheets: Sheets,
+}
+
+/// The same for jobs by figures.
+pub struct Figures {
+    pub random_figures: u64,
+    pub spoilt_figures: u64,
+    /// One in so many of the stacks that stand on either side of every step, not the same
+    /// ones in both versions: with 2, each stands in one of them.
+    pub one_stack_in: usize,
+    /// One in so many of the numbers of points that can be asked for.
+    pub one_number_in: usize,
+    /// One in so many truncations of the longest figure.
+    pub one_truncation_in: usize,
+    /// Each byte of a short figure with every other value, or with telling ones.
+    pub every_value: bool,
+    /// One in so many changes of that figure, and of the longest.
+    pub one_short_change_in: usize,
+    pub one_change_in: usize,
 }
 
 /// The same for printed sheets, each of which starts a program.
@@ -35,6 +54,16 @@ pub const FULL: Extent = Extent {
     random_rectangles: 20_000,
     every_value: true,
     every_pairing: true,
+    figures: Figures {
+        random_figures: 4_000,
+        spoilt_figures: 6_000,
+        one_stack_in: 1,
+        one_number_in: 1,
+        one_truncation_in: 1,
+        every_value: true,
+        one_short_change_in: 1,
+        one_change_in: 1,
+    },
     sheets: Sheets {
         damaged_jobs: 450,
         random_jobs: 300,
@@ -54,6 +83,16 @@ pub const LIGHT: Extent = Extent {
     random_rectangles: 4_000,
     every_value: false,
     every_pairing: false,
+    figures: Figures {
+        random_figures: 16,
+        spoilt_figures: 24,
+        one_stack_in: 2,
+        one_number_in: 12,
+        one_truncation_in: 9,
+        every_value: false,
+        one_short_change_in: 5,
+        one_change_in: 31,
+    },
     sheets: Sheets {
         damaged_jobs: 48,
         random_jobs: 30,

@@ -4,6 +4,7 @@
 //! accepted runs, each finding and each absence come up.
 
 mod certificates;
+pub mod figures;
 mod runs;
 
 use std::collections::BTreeSet;
@@ -100,7 +101,7 @@ fn tune_isokinetic(random: &mut Random, job: &mut Job) {
     while short + 1 < reached {
         let middle = (short + reached) / 2;
         run.last_reading = first + middle;
-        match work(job, &run).lines.isokinetic() {
+        match work(None, job, &run).lines.isokinetic() {
             Some(exact) if past(exact) => reached = middle,
             _ => short = middle,
         }

@@ -1,8 +1,9 @@
 //! Compares the proved library, and the program `sheet`, with the independent
 //! program, byte for byte, on jobs of either version, and fails where they disagree.
 //! A job without letters is compared with the same in the other version, too, but for
-//! its runs whose factor moved. What the jobs reached is counted and shown; a count that
-//! must not be 0 fails it too.
+//! its runs whose factor moved. The calls that take a figure are compared on jobs beside
+//! figures. What all of them reached is counted and shown; a count that must not be 0
+//! fails it too.
 //!
 //!     --sheet COMMAND   the program `sheet` (or set SHEET)
 //!     --library-only    leaves the program out, on purpose
@@ -30,6 +31,7 @@ mod report;
 mod runner;
 mod sections;
 mod shrink;
+mod site;
 mod spoil;
 mod tally;
 mod versions;

@@ -4,7 +4,7 @@ mod linked;
 
 use std::cell::RefCell;
 
-use leverbonnet::pipe::{CommandLine, Pipe, Request};
+use leverbonnet::pipe::{CommandLine, Files, Pipe, Request};
 
 use crate::call::{Fill, Outcome, Side, Trial};
 use crate::extent::{Extent, FULL, LIGHT};
@@ -51,12 +51,12 @@ impl Proved {
 
     /// What each trial came to. A call that did not come back is told in words,
     /// and is the last one told.
-    pub fn made(&self, trials: &[Trial], job: &[u8]) -> Vec<Result<Outcome, String>> {
+    pub fn made(&self, trials: &[Trial], files: Files) -> Vec<Result<Outcome, String>> {
         match self {
-            Proved::Linked(side) => trials.iter().map(|one| Ok(one.made(side, job))).collect(),
+            Proved::Linked(side) => trials.iter().map(|one| Ok(one.made(side, files))).collect(),
             Proved::Piped(pipe) => {
                 let requests: Vec<Request> = trials.iter().map(Trial::request).collect();
-                let replies = pipe.borrow_mut().replies(&requests, job);
+                let replies = pipe.borrow_mut().replies(&requests, files);
                 let told = replies.into_iter().zip(trials);
                 told.map(|(reply, one)| reply.map(|reply| one.told(reply)))
                     .collect()

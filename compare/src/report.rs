@@ -1,5 +1,5 @@
-//! What a failed comparison says: the case, the smallest job found for it, and
-//! what was given on that where the same should have been.
+//! What a failed comparison says: the case, its figure, the smallest job found for it,
+//! and what was given on that where the same should have been.
 
 use std::fmt;
 
@@ -8,6 +8,8 @@ use crate::call::hex;
 
 pub struct Failure {
     pub case: String,
+    /// None for calls that take no figure.
+    pub figure: Option<Vec<u8>>,
     /// None for calls that take no job.
     pub job: Option<Vec<u8>>,
     pub difference: Difference,
@@ -16,6 +18,10 @@ pub struct Failure {
 impl fmt::Display for Failure {
     fn fmt(&self, f: &mut fmt::Formatter) -> fmt::Result {
         writeln!(f, "DISAGREEMENT in {}", self.case)?;
+        if let Some(figure) = &self.figure {
+            writeln!(f, "figure, {} bytes:", figure.len())?;
+            writeln!(f, "  {}", hex(figure))?;
+        }
         if let Some(job) = &self.job {
             writeln!(f, "smallest job found, {} bytes:", job.len())?;
             writeln!(f, "  {}", hex(job))?;

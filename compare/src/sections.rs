@@ -13,9 +13,10 @@ use crate::report::Failure;
 use crate::runner::Section;
 use crate::tally::Tally;
 
-/// What one half came to: the section whose own reach matters, and all of them.
+/// What one half came to: what a section should have reached and did not, and all that
+/// was counted.
 struct Half {
-    told: Tally,
+    unreached: Vec<String>,
     all: Tally,
 }
 
@@ -33,8 +34,8 @@ pub fn unreached(given: &Arguments) -> Result<Vec<String>, String> {
     let mut all = read.all;
     all.add(&others.all);
     println!("all refusals: {}", all.refusals_text());
-    let mut unreached = read.told.unreached_by_reading();
-    unreached.extend(others.told.unreached_by_refusing());
+    let mut unreached = read.unreached;
+    unreached.extend(others.unreached);
     unreached.extend(all.unreached_refusals(11..=11));
     Ok(unreached)
 }
@@ -73,10 +74,11 @@ fn read_jobs(proved: &Proved) -> Result<Half, Failure> {
     let random = Section::new("random jobs").library(proved, random)?;
     println!("{random}");
     all.add(&random);
-    Ok(Half { told: random, all })
+    let unreached = random.unreached_by_reading();
+    Ok(Half { unreached, all })
 }
 
-/// Damaged jobs, every velocity head, the longest jobs, large files, outputs of many
+/// Damaged jobs, jobs by figures, every velocity head, the longest jobs, large files, outputs of many
 /// lengths, layouts, and printed sheets.
 fn others(proved: &Proved, sheet: Option<&CommandLine>) -> Result<Half, Failure> {
     let extent = proved.extent();
@@ -85,6 +87,11 @@ fn others(proved: &Proved, sheet: Option<&CommandLine>) -> Result<Half, Failure>
     let damaged = Section::new("damaged jobs").library(proved, damaged)?;
     println!("{}", damaged.refused_text());
     all.add(&damaged);
+
+    let figures = in_both(|version| cases::figures::cases(version, &extent.figures));
+    let figures = Section::new("jobs by figures").by_figure(proved, figures)?;
+    println!("{}", figures.figures_text());
+    all.add(&figures);
 
     let heads = in_both(|version| cases::heads::cases(version, extent.one_job_of_heads_in));
     all.add(&Section::new("velocity heads").library(proved, heads)?);
@@ -99,7 +106,9 @@ fn others(proved: &Proved, sheet: Option<&CommandLine>) -> Result<Half, Failure>
         let cases = in_both(|version| cases::sheet::cases(version, &extent.sheets));
         Section::new("printed sheets").sheets(program, cases)?;
     }
-    Ok(Half { told: damaged, all })
+    let mut unreached = damaged.unreached_by_refusing();
+    unreached.extend(figures.unreached_by_figures());
+    Ok(Half { unreached, all })
 }
 
 #[cfg(test)]
@@ -116,5 +125,15 @@ mod tests {
         let random = random.unwrap_or_else(|failure| panic!("{failure}"));
         println!("{random}");
         assert_eq!(random.unreached_by_reading(), Vec::<String>::new());
+    }
+
+    #[test]
+    fn the_fewest_jobs_by_figures_reach_all_that_they_must() {
+        let proved = Proved::Linked(INDEPENDENT);
+        let figures = in_both(|version| cases::figures::cases(version, &LIGHT.figures));
+        let figures = Section::new("jobs by figures").by_figure(&proved, figures);
+        let figures = figures.unwrap_or_else(|failure| panic!("{failure}"));
+        println!("{}", figures.figures_text());
+        assert_eq!(figures.unreached_by_figures(), Vec::<String>::new());
     }
 }

@@ -1,6 +1,8 @@
 //! Ways to damage a job that is read, each saying which refusal must follow when
 //! it is the only damage.
 
+pub mod figures;
+
 use independent::job::*;
 
 use crate::case::{Change, Expected, Subject};

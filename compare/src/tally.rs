@@ -4,23 +4,28 @@
 
 mod edges;
 mod factors;
+mod figures;
 mod letters;
 
 use std::fmt;
 
+use independent::figure::Figure;
 use independent::job::{Job, Run};
 use independent::Class;
 
 use crate::call::{Outcome, FINDING_LENGTH, LINES_LENGTH, LINE_COUNT, LINE_LENGTH};
 use crate::versions::InTwin;
 use edges::{Reduced, Refused, Times, EDGES};
+use figures::{RefusedFigure, RunByFigure};
 
 /// The rules that there are: none has the number 13.
 const RULES: [usize; 19] = [
     1, 2, 3, 4, 5, 6, 7, 8, 9, 10, 11, 12, 14, 15, 16, 17, 18, 19, 20,
 ];
 const LAST_RULE: usize = 20;
-const REFUSALS: usize = 11;
+
+/// The greatest number of a refusal; 12 and 13 are given by none.
+const LAST_REFUSAL: usize = 14;
 
 /// The lines that can be absent, each with the rules that are found exactly
 /// when one of its causes holds.
@@ -48,7 +53,7 @@ pub struct Tally {
     /// By line, then by the rule that was its only cause.
     absences: [[u64; LAST_RULE + 1]; LINE_COUNT + 1],
     edges: Edges,
-    refusals: [u64; REFUSALS + 1],
+    refusals: [u64; LAST_REFUSAL + 1],
 }
 
 /// How often each edge was reached. An array of so many has no default.
@@ -79,8 +84,21 @@ impl Tally {
             place: outcome.value() as usize,
         };
         self.count_edges(|times| match times {
-            Times::Run(_) => 0,
             Times::Refusal(times) => times(&refused),
+            _ => 0,
+        });
+    }
+
+    /// The same for a figure.
+    pub fn count_refused_figure(&mut self, figure: &[u8], place: u32, job_refused: bool) {
+        let refused = RefusedFigure {
+            figure,
+            place: place as usize,
+            job_refused,
+        };
+        self.count_edges(|times| match times {
+            Times::RefusedFigure(whether) => usize::from(whether(&refused)),
+            _ => 0,
         });
     }
 
@@ -105,11 +123,7 @@ impl Tally {
             findings: findings(outcome),
             faults: faults(outcome),
         };
-        self.accepted += u64::from(reduced.accepted);
-        self.void += u64::from(!reduced.accepted);
-        for &(rule, _) in &reduced.findings {
-            self.rules[usize::from(rule)] += 1;
-        }
+        self.count_verdict(outcome);
         for (number, causes) in ABSENCES {
             let mut held = causes.iter().filter(|&&cause| reduced.breaks(cause));
             if let (None, Some(&only), None) = (reduced.line(number), held.next(), held.next()) {
@@ -118,7 +132,33 @@ impl Tally {
         }
         self.count_edges(|times| match times {
             Times::Run(times) => times(&reduced),
-            Times::Refusal(_) => 0,
+            _ => 0,
+        });
+    }
+
+    fn count_verdict(&mut self, outcome: &Outcome) {
+        self.accepted += u64::from(outcome.accepted());
+        self.void += u64::from(!outcome.accepted());
+        for (rule, _) in findings(outcome) {
+            self.rules[usize::from(rule)] += 1;
+        }
+    }
+
+    /// Counts the verdict, findings and edges of a successful reduce by a figure.
+    pub fn count_reduced_by_figure(&mut self, figure: &Figure, run: &Run, outcome: &Outcome) {
+        self.count(outcome);
+        if outcome.refusal() != 0 {
+            return;
+        }
+        self.count_verdict(outcome);
+        let by_figure = RunByFigure {
+            figure,
+            run,
+            breaks_rule_9: findings(outcome).iter().any(|&(rule, _)| rule == 9),
+        };
+        self.count_edges(|times| match times {
+            Times::RunByFigure(whether) => usize::from(whether(&by_figure)),
+            _ => 0,
         });
     }
 
@@ -172,12 +212,25 @@ impl Tally {
         unreached
     }
 
+    /// What jobs worked by figures must reach and these did not, in words.
+    pub fn unreached_by_figures(&self) -> Vec<String> {
+        let edges = self.edges_of_figures().filter(|&(_, count)| count == 0);
+        let edges = edges.map(|(edge, _)| edge.into());
+        let mut unreached = self.unreached_refusals([9, 10, LAST_REFUSAL].into_iter());
+        unreached.extend(edges);
+        unreached
+    }
+
     fn edges_of_runs(&self) -> impl Iterator<Item = (&'static str, u64)> + '_ {
         self.edges(|times| matches!(times, Times::Run(_)))
     }
 
     fn edges_of_refusals(&self) -> impl Iterator<Item = (&'static str, u64)> + '_ {
         self.edges(|times| matches!(times, Times::Refusal(_)))
+    }
+
+    fn edges_of_figures(&self) -> impl Iterator<Item = (&'static str, u64)> + '_ {
+        self.edges(|times| matches!(times, Times::RunByFigure(_) | Times::RefusedFigure(_)))
     }
 
     /// The edges that such come to, with how often they did.
@@ -201,8 +254,17 @@ impl Tally {
         edges_text(self.edges_of_refusals())
     }
 
+    /// What was reached by jobs that were worked by figures.
+    pub fn figures_text(&self) -> String {
+        [self.verdicts_text(), edges_text(self.edges_of_figures())].join("\n")
+    }
+
+    fn verdicts_text(&self) -> String {
+        format!("  accepted {}, void {}", self.accepted, self.void)
+    }
+
     pub fn refusals_text(&self) -> String {
-        let refusals = (1..=REFUSALS).filter(|&number| self.refusals[number] > 0);
+        let refusals = (1..=LAST_REFUSAL).filter(|&number| self.refusals[number] > 0);
         let counted: Vec<String> = refusals
             .map(|number| format!("{number}: {}", self.refusals[number]))
             .collect();
@@ -260,7 +322,7 @@ fn written_findings(outcome: &Outcome) -> impl Iterator<Item = &[u8]> {
 /// What was reached by jobs that are read.
 impl fmt::Display for Tally {
     fn fmt(&self, f: &mut fmt::Formatter) -> fmt::Result {
-        writeln!(f, "  accepted {}, void {}", self.accepted, self.void)?;
+        writeln!(f, "{}", self.verdicts_text())?;
         let rules: Vec<String> = RULES
             .iter()
             .map(|&rule| format!("{rule}: {}", self.rules[rule]))
@@ -282,6 +344,15 @@ impl fmt::Display for Tally {
 }
 
 #[cfg(test)]
+impl Tally {
+    /// The edges that were reached, with how often.
+    fn reached(&self) -> Vec<(&'static str, u64)> {
+        let edges = self.edges(|_| true);
+        edges.filter(|&(_, count)| count > 0).collect()
+    }
+}
+
+#[cfg(test)]
 mod tests {
     use independent::job::{Job, Version, NO_LETTER};
     use independent::samples;
@@ -289,7 +360,7 @@ mod tests {
 
     use super::*;
     use crate::agreement::INDEPENDENT;
-    use crate::call::{Fill, Trial};
+    use crate::call::{only, Fill, Trial};
     use crate::versions::{in_twin, moved_factor};
 
     #[test]
@@ -313,19 +384,10 @@ mod tests {
                 findings_len: 3 * FINDING_LENGTH,
             };
             let fill = Fill::Pattern;
-            let outcome = Trial { call, fill }.made(&INDEPENDENT, &job.bytes());
+            let outcome = Trial { call, fill }.made(&INDEPENDENT, only(&job.bytes()));
             tally.count_reduced(job, run, in_twin(job, run), &outcome);
         }
         tally
-    }
-
-    /// The edges that are reached, with how often.
-    fn reached(tally: &Tally) -> Vec<(&'static str, u64)> {
-        let edges = EDGES.iter().zip(tally.edges.0);
-        edges
-            .map(|(edge, count)| (edge.name, count))
-            .filter(|&(_, count)| count > 0)
-            .collect()
     }
 
     /// Four runs, of which two are past a limit and are written as if they were not.
@@ -333,7 +395,7 @@ mod tests {
     fn a_percent_past_its_limit_is_told_from_one_that_is_written_alike() {
         let tally = counted(&samples::percent_limits());
         assert_eq!(
-            reached(&tally),
+            tally.reached(),
             [
                 ("line 18 at 9000 and rule 15 broken", 1),
                 ("line 18 at 9000 and rule 15 kept", 1),
@@ -352,7 +414,7 @@ mod tests {
     #[test]
     fn weighings_are_told_apart_by_difference_and_net() {
         assert_eq!(
-            reached(&counted(&samples::weighing_limits())),
+            counted(&samples::weighing_limits()).reached(),
             [
                 ("weighed 5 apart: kept", 1),
                 ("weighed over 5 apart, up to 1 percent of the net: kept", 2),
@@ -374,7 +436,7 @@ mod tests {
     fn a_missing_certificate_is_told_from_one_with_another_letter() {
         let job = samples::rebuilt_meter();
         assert_eq!(
-            reached(&counted(&job)),
+            counted(&job).reached(),
             [
                 (
                     "rule 1 broken, though a certificate with another letter stands",
@@ -403,7 +465,7 @@ mod tests {
             ),
             ("a run of version 2", 1),
         ];
-        assert_eq!(reached(&counted(&job)), expected);
+        assert_eq!(counted(&job).reached(), expected);
 
         job.certificates[1].day = 9_011;
         job.certificates[2].day = 9_011;
@@ -412,7 +474,7 @@ mod tests {
             "two certificates that differ by the letter alone, one of them chosen",
             1,
         );
-        assert_eq!(reached(&counted(&job)), expected);
+        assert_eq!(counted(&job).reached(), expected);
     }
 
     /// Three runs: not moved, moved up, moved down.
@@ -456,7 +518,7 @@ mod tests {
             (Version::Two, &in_version_2[..]),
         ] {
             let tally = counted(&moved_factor(version));
-            assert_eq!(reached(&tally), [&limits[..], edges].concat());
+            assert_eq!(tally.reached(), [&limits[..], edges].concat());
         }
     }
 
@@ -469,7 +531,7 @@ mod tests {
                 run.points[0].seconds = 119;
                 run.points[1].seconds += 450 - 119;
             }
-            let mut edges = reached(&counted(&job));
+            let mut edges = counted(&job).reached();
             edges.retain(|(edge, _)| edge.contains(": void"));
             edges
         };
@@ -500,7 +562,7 @@ mod tests {
             let mut job = samples::rebuilt_meter().bytes();
             job[place] = value;
             let (call, fill) = (Call::RunCount, Fill::Pattern);
-            let outcome = Trial { call, fill }.made(&INDEPENDENT, &job);
+            let outcome = Trial { call, fill }.made(&INDEPENDENT, only(&job));
             assert_eq!(outcome.answer, 5 << 32 | place as u64);
             let mut tally = Tally::default();
             tally.count_refused(&job, &outcome);

@@ -1,5 +1,5 @@
 //! Outputs of every length about the need, for runs with no finding, with few
-//! and with many.
+//! and with many, without a figure and by one.
 
 use std::iter;
 
@@ -7,7 +7,7 @@ use independent::job::{Job, Shape, Version, WeighingKind};
 use independent::samples;
 use leverbonnet::pipe::Call;
 
-use crate::call::{FINDING_LENGTH, LINES_LENGTH};
+use crate::call::{Pair, BY_FIGURE, FINDING_LENGTH, LINES_LENGTH, WITHOUT_FIGURE};
 use crate::case::{Case, Expected};
 use crate::versions::in_version;
 
@@ -19,6 +19,8 @@ const ABOUT_TEXT: usize = 40;
 /// A run and the number of its findings, to be reduced into many outputs.
 pub struct Outputs {
     pub case: Case,
+    /// None for the calls that take none.
+    pub figure: Option<Vec<u8>>,
     run: u16,
     findings: usize,
     /// Whether every length of one output meets every length of the other.
@@ -28,9 +30,14 @@ pub struct Outputs {
 pub fn cases(version: Version) -> Vec<Outputs> {
     let outputs = |name: &str, sample, run, findings, crossed| Outputs {
         case: Case::of_job(name.into(), in_version(version, sample), Expected::Read),
+        figure: None,
         run,
         findings,
         crossed,
+    };
+    let by_figure = |name: &str, sample, findings| Outputs {
+        figure: Some(samples::made_up().bytes()),
+        ..outputs(name, sample, 7, findings, false)
     };
     let several = samples::several_runs;
     vec![
@@ -38,6 +45,16 @@ pub fn cases(version: Version) -> Vec<Outputs> {
         outputs("a run without findings", several(), 1, 0, true),
         outputs("a run with seven findings", several(), 20, 7, true),
         outputs("a run with the most findings", fullest(), 7, 98, false),
+        by_figure(
+            "a run with one finding by a figure",
+            samples::more_points(),
+            1,
+        ),
+        by_figure(
+            "a run without findings by a figure",
+            samples::fewer_points(),
+            0,
+        ),
     ]
 }
 
@@ -49,16 +66,27 @@ impl Outputs {
         calls
     }
 
+    fn pair(&self) -> Pair {
+        match self.figure {
+            None => WITHOUT_FIGURE,
+            Some(_) => BY_FIGURE,
+        }
+    }
+
+    fn text(&self) -> Vec<u8> {
+        let job = self.case.subject.bytes();
+        match &self.figure {
+            None => independent::sheet(&job),
+            Some(figure) => independent::sheet_by_figure(figure, &job),
+        }
+    }
+
     fn reduces(&self) -> Vec<(Call, Expected)> {
         let needed = FINDING_LENGTH * self.findings;
         let mut calls = Vec::new();
         for lines_len in (0..=MOST_LINES).filter(|&length| self.crossed || is_telling(length)) {
             for findings_len in 0..=needed + FINDING_LENGTH + 1 {
-                let call = Call::Reduce {
-                    run: self.run,
-                    lines_len,
-                    findings_len,
-                };
+                let call = (self.pair().reduce)(self.run, lines_len, findings_len);
                 let too_short = lines_len < LINES_LENGTH || findings_len < needed;
                 calls.push((call, refused_if(too_short)));
             }
@@ -67,10 +95,10 @@ impl Outputs {
     }
 
     fn texts(&self) -> impl Iterator<Item = (Call, Expected)> {
-        let needed = independent::sheet(&self.case.subject.bytes()).len();
+        let (pair, needed) = (self.pair(), self.text().len());
         let about = needed - ABOUT_TEXT..=needed + ABOUT_TEXT;
         let lengths = iter::once(0).chain(about);
-        lengths.map(move |out_len| (Call::SheetText { out_len }, refused_if(out_len < needed)))
+        lengths.map(move |out_len| ((pair.text)(out_len), refused_if(out_len < needed)))
     }
 }
 

@@ -49,29 +49,34 @@ pub fn truncations(version: Version) -> impl Iterator<Item = Case> {
 }
 
 /// Every byte given every other value, or telling ones.
-pub fn changes(version: Version, every_value: bool) -> Box<dyn Iterator<Item = Case>> {
-    match every_value {
-        true => Box::new(changes_to(version, |byte| {
-            (0..=255).filter(|&value| value != byte).collect()
-        })),
-        false => Box::new(telling_changes(version)),
-    }
+pub fn changes(version: Version, every_value: bool) -> impl Iterator<Item = Case> {
+    let values = match every_value {
+        true => other_values,
+        false => telling_values,
+    };
+    changes_to(version, values)
 }
 
-/// Every byte given a few other values: where limits and signs are crossed.
 pub fn telling_changes(version: Version) -> impl Iterator<Item = Case> {
-    changes_to(version, |byte| {
-        let near = [byte.wrapping_add(1), byte.wrapping_sub(1)];
-        let flipped = [byte ^ 1, byte ^ 0x80];
-        let mut values = [&[0, 1, 255], &near[..], &flipped[..]].concat();
-        values.sort();
-        values.dedup();
-        values.retain(|&value| value != byte);
-        values
-    })
+    changes_to(version, telling_values)
 }
 
-fn changes_to(version: Version, values: impl Fn(u8) -> Vec<u8>) -> impl Iterator<Item = Case> {
+pub fn other_values(byte: u8) -> Vec<u8> {
+    (0..=255).filter(|&value| value != byte).collect()
+}
+
+/// A few other values: where limits and signs are crossed.
+pub fn telling_values(byte: u8) -> Vec<u8> {
+    let near = [byte.wrapping_add(1), byte.wrapping_sub(1)];
+    let flipped = [byte ^ 1, byte ^ 0x80];
+    let mut values = [&[0, 1, 255], &near[..], &flipped[..]].concat();
+    values.sort();
+    values.dedup();
+    values.retain(|&value| value != byte);
+    values
+}
+
+fn changes_to(version: Version, values: fn(u8) -> Vec<u8>) -> impl Iterator<Item = Case> {
     let bytes = worked(version).bytes().into_iter().enumerate();
     bytes.flat_map(move |(at, byte)| {
         values(byte).into_iter().map(move |value| {

@@ -6,8 +6,9 @@ use independent::samples;
 use super::{Style, MOST_METERED};
 use crate::fields::{POINT, RECTANGULAR_COUNTS, RUN, SEGMENT_LEAK, WEIGHING};
 use crate::random::Random;
+use crate::site::diameter;
 
-const MOST_POINTS: usize = 64;
+pub(super) const MOST_POINTS: usize = 64;
 const MOST_SEGMENTS: usize = 16;
 const MOST_WEIGHINGS: usize = 8;
 const LONGEST_RUN: i64 = 36_000;
@@ -60,11 +61,8 @@ fn choose_stack(random: &mut Random, run: &mut Run, style: Style) {
         run.shape = Shape::Round;
         run.sides = [side(random, style), 0];
     }
-    let (first, second) = (i64::from(run.sides[0]), i64::from(run.sides[1]));
-    let diameter = match run.shape {
-        Shape::Round => first,
-        Shape::Rectangular => 2 * first * second / (first + second),
-    };
+    let (numerator, denominator) = diameter(run);
+    let diameter = numerator / denominator;
     run.to_next_disturbance = distance(random, diameter, &[1, 4, 5, 6], style);
     run.from_last_disturbance = distance(random, diameter, &[4, 16, 17, 20], style);
 }

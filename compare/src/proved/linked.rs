@@ -7,11 +7,13 @@ pub fn side() -> Option<Side> {
     use leverbonnet::linked;
     Some(Side {
         reduce: linked::reduce,
+        reduce_by_figure: linked::reduce_by_figure,
         run_count: linked::run_count,
         run_number: linked::run_number,
         round_layout: linked::round_layout,
         rect_layout: linked::rect_layout,
         sheet_text: linked::sheet_text,
+        sheet_text_by_figure: linked::sheet_text_by_figure,
     })
 }
 

@@ -1,9 +1,10 @@
 //! What some run or refusal of a comparison must come to: edges of the rules, which
-//! hardly any meets by chance, factors that moved, what letters are for, and both
-//! versions.
+//! hardly any meets by chance, factors that moved, what letters are for, both versions,
+//! and what figures are for.
 
-use independent::job::{Job, Run, Version};
+use independent::job::{Job, Run, Shape, Version};
 
+use super::figures::{Disturbance, Field, RefusedFigure, RunByFigure};
 use crate::versions::InTwin;
 
 /// A run that was read, and what was written of it.
@@ -31,10 +32,12 @@ pub struct Edge {
     pub times: Times,
 }
 
-/// How often a run, or a refusal, comes to it.
+/// How often a run, or a refusal, comes to it; or whether one by a figure does.
 pub enum Times {
     Run(fn(&Reduced) -> usize),
     Refusal(fn(&Refused) -> usize),
+    RunByFigure(fn(&RunByFigure) -> bool),
+    RefusedFigure(fn(&RefusedFigure) -> bool),
 }
 
 const fn edge(name: &'static str, times: fn(&Reduced) -> usize) -> Edge {
@@ -47,6 +50,16 @@ const fn refusal(name: &'static str, times: fn(&Refused) -> usize) -> Edge {
     Edge { name, times }
 }
 
+const fn by_figure(name: &'static str, whether: fn(&RunByFigure) -> bool) -> Edge {
+    let times = Times::RunByFigure(whether);
+    Edge { name, times }
+}
+
+const fn refused_figure(name: &'static str, whether: fn(&RefusedFigure) -> bool) -> Edge {
+    let times = Times::RefusedFigure(whether);
+    Edge { name, times }
+}
+
 /// Line 13 where every head is 0.01 in water: a stack that is as slow as that,
 /// or slower, is one that the root's fifth place was asked for.
 const SLOW_ROOT: i64 = 10_000;
@@ -56,7 +69,7 @@ const SLOW_ROOT: i64 = 10_000;
 const STEADY: i64 = 5;
 
 #[rustfmt::skip]
-pub const EDGES: [Edge; 45] = [
+pub const EDGES: [Edge; 98] = [
     edge("line 6 at its least, 1", |run| run.at(6, 1)),
     edge("a slow stack, line 13 from 1 to 10000", |run| run.slow_stack()),
     edge("line 18 at 8999 and rule 15 broken", |run| run.broken_at(15, 8_999)),
@@ -124,6 +137,59 @@ pub const EDGES: [Edge; 45] = [
     edge("a run of version 1 left out of the check against its twin, because its factor moved", |run| run.stands_in_twin(Version::One, InTwin::LeftOut)),
     edge("a run of version 2 left out of the check against its twin, because its factor moved", |run| run.stands_in_twin(Version::Two, InTwin::LeftOut)),
     refusal("a bad letter refused", |refused| refused.for_letter()),
+    by_figure("more points by the last disturbance than by the next", |run| run.decides(Disturbance::Last)),
+    by_figure("more points by the next disturbance than by the last", |run| run.decides(Disturbance::Next)),
+    by_figure("as many points by the last disturbance as by the next", |run| run.both_decide()),
+    by_figure("a figure's round points raised", |run| run.raised(Shape::Round)),
+    by_figure("a figure's round points not raised", |run| run.not_raised(Shape::Round)),
+    by_figure("a figure's rectangular points raised", |run| run.raised(Shape::Rectangular)),
+    by_figure("a figure's rectangular points not raised", |run| run.not_raised(Shape::Rectangular)),
+    by_figure("the first step, though the last disturbance reaches none", |run| run.reaches_none(Disturbance::Last)),
+    by_figure("the first step, though the next disturbance reaches none", |run| run.reaches_none(Disturbance::Next)),
+    by_figure("the last disturbance just at a step, round", |run| run.reaches_exactly(Disturbance::Last, Shape::Round)),
+    by_figure("the last disturbance just at a step, rectangular", |run| run.reaches_exactly(Disturbance::Last, Shape::Rectangular)),
+    by_figure("the next disturbance just at a step, round", |run| run.reaches_exactly(Disturbance::Next, Shape::Round)),
+    by_figure("the next disturbance just at a step, rectangular", |run| run.reaches_exactly(Disturbance::Next, Shape::Rectangular)),
+    by_figure("the last disturbance less than 0.1 in past a step, round", |run| run.reaches_closely(Disturbance::Last, Shape::Round)),
+    by_figure("the last disturbance less than 0.1 in past a step, rectangular", |run| run.reaches_closely(Disturbance::Last, Shape::Rectangular)),
+    by_figure("the next disturbance less than 0.1 in past a step, round", |run| run.reaches_closely(Disturbance::Next, Shape::Round)),
+    by_figure("the next disturbance less than 0.1 in past a step, rectangular", |run| run.reaches_closely(Disturbance::Next, Shape::Rectangular)),
+    by_figure("the last disturbance up to 0.1 in short of a step, round", |run| run.misses_closely(Disturbance::Last, Shape::Round)),
+    by_figure("the last disturbance up to 0.1 in short of a step, rectangular", |run| run.misses_closely(Disturbance::Last, Shape::Rectangular)),
+    by_figure("the next disturbance up to 0.1 in short of a step, round", |run| run.misses_closely(Disturbance::Next, Shape::Round)),
+    by_figure("the next disturbance up to 0.1 in short of a step, rectangular", |run| run.misses_closely(Disturbance::Next, Shape::Rectangular)),
+    by_figure("rule 9 broken by a figure, where the house rule keeps it", |run| run.broken_by_figure()),
+    by_figure("rule 9 kept by a figure, where the house rule breaks it", |run| run.kept_by_figure()),
+    by_figure("rule 9 kept at an undisturbed site, where the figure would break it", |run| run.kept_undisturbed()),
+    by_figure("rule 9 broken at an undisturbed site, where the figure would keep it", |run| run.broken_undisturbed()),
+    by_figure("at least 4 points, round: kept with 4", |run| run.kept_with(4, Shape::Round, 4)),
+    by_figure("at least 48 points, round: broken with 44", |run| run.broken_with(44, Shape::Round, 48)),
+    by_figure("at least 48 points, round: kept with 48", |run| run.kept_with(48, Shape::Round, 48)),
+    by_figure("at least 9 points, rectangular: kept with 9", |run| run.kept_with(9, Shape::Rectangular, 9)),
+    by_figure("at least 49 points, rectangular: broken with 42", |run| run.broken_with(42, Shape::Rectangular, 49)),
+    by_figure("at least 49 points, rectangular: broken with 48", |run| run.broken_with(48, Shape::Rectangular, 49)),
+    by_figure("at least 49 points, rectangular: kept with 49", |run| run.kept_with(49, Shape::Rectangular, 49)),
+    by_figure("1 step in each list", |run| run.has_steps(1)),
+    by_figure("16 steps in each list", |run| run.has_steps(16)),
+    refused_figure("a figure refused at its mark", |figure| figure.is_for(Field::Mark)),
+    refused_figure("a figure refused at its version", |figure| figure.is_for(Field::Version)),
+    refused_figure("a figure refused at the number of steps from the last disturbance", |figure| figure.is_for(Field::Count(Disturbance::Last))),
+    refused_figure("a figure refused at the number of steps to the next disturbance", |figure| figure.is_for(Field::Count(Disturbance::Next))),
+    refused_figure("a figure refused at a distance from the last disturbance", |figure| figure.is_for(Field::Distance(Disturbance::Last))),
+    refused_figure("a figure refused at a distance to the next disturbance", |figure| figure.is_for(Field::Distance(Disturbance::Next))),
+    refused_figure("a figure refused at 0 round points", |figure| figure.is_for_points(Shape::Round, 0..=0)),
+    refused_figure("a figure refused at round points that rise", |figure| figure.is_for_points(Shape::Round, 1..=48)),
+    refused_figure("a figure refused at 49 round points", |figure| figure.is_for_points(Shape::Round, 49..=49)),
+    refused_figure("a figure refused at 50 round points or more", |figure| figure.is_for_points(Shape::Round, 50..=255)),
+    refused_figure("a figure refused at 0 rectangular points", |figure| figure.is_for_points(Shape::Rectangular, 0..=0)),
+    refused_figure("a figure refused at rectangular points that rise", |figure| figure.is_for_points(Shape::Rectangular, 1..=49)),
+    refused_figure("a figure refused at 50 rectangular points", |figure| figure.is_for_points(Shape::Rectangular, 50..=50)),
+    refused_figure("a figure refused at 51 rectangular points or more", |figure| figure.is_for_points(Shape::Rectangular, 51..=255)),
+    refused_figure("a figure refused at what is left over", |figure| figure.is_for(Field::LeftOver)),
+    refused_figure("a figure refused at its end, before a field", |figure| figure.ends_before_a_field()),
+    refused_figure("a figure refused at its end, within a field", |figure| figure.ends_within_a_field()),
+    refused_figure("a figure refused beside a job that is read", |figure| !figure.job_refused),
+    refused_figure("a figure refused beside a job that is refused", |figure| figure.job_refused),
 ];
 
 impl Reduced<'_> {

@@ -43,7 +43,7 @@ impl Reduced<'_> {
             version: other(self.job.version),
             ..self.job.clone()
         };
-        work(&in_other, self.run).lines.all()[..] != self.lines[..]
+        work(None, &in_other, self.run).lines.all()[..] != self.lines[..]
     }
 
     fn has_factors(&self, such: fn(i64, i64) -> bool) -> bool {
