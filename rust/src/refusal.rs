@@ -67,7 +67,7 @@ impl fmt::Display for Refusal {
     fn fmt(&self, f: &mut fmt::Formatter) -> fmt::Result {
         write!(f, "refusal {}", self.number)?;
         match self.number {
-            ..=8 => write!(f, " at byte {}", self.place)?,
+            0..=8 => write!(f, " at byte {}", self.place)?,
             BAD_FIGURE => write!(f, " at byte {} of the figure", self.place)?,
             _ => (),
         }
