@@ -11,7 +11,8 @@
 //     16      the figure's length, u16, at most 4,096
 //
 // A length above its most counts as its most, and a file that the input cuts short is made up with zeros. A call
-// that takes no figure looks at none. The reply is the call's answer as a u64, 0 where there is no such call, then both outputs as the call left them.
+// that takes no figure looks at none. The reply is the call's answer as a u64, 0 where there is no such call, then
+// both outputs as the call left them.
 
 ghost use mathlib.Core.Path.{_≡_};
 ghost use Prim.Native.Nat.{min};

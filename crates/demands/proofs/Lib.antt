@@ -2,6 +2,7 @@
 pub mod Troubles
 pub mod FigureFile
 pub mod GoodFigures
+pub mod StepsTaken
 pub mod GoodParts
 pub mod ByTable
 pub mod Numbers

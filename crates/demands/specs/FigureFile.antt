@@ -1,14 +1,19 @@
--- A figure file as a call is given it (docs/RULES.md, The figure file): when it is good, and where it is in trouble.
-use Prim.Native.Nat.{ℕ, suc, _≤_, _<_}
+-- A figure file as a call is given it (docs/RULES.md, The figure file): when it is good, where it is in trouble, and what it asks for.
+use Prim.Native.Nat.{ℕ, suc, _*_, _≤_, _<_, max}
 use mathlib.Core.Path.{_≡_}
 use mathlib.Core.List.{List}
+use mathlib.Core.Logic.{_⊎_}
 use lib.ListN.{length}
 use Rattle.fields.specs.Numbers.{byteAt, u16At}
 use Rattle.fields.specs.Trouble.{AllGood}
+use Rattle.records.specs.declared.Site.{Site}
+use Rattle.diameters.specs.Diameters.{diameter}
 use Rattle.steps.specs.declared.Step.{Step}
 use Rattle.steps.specs.declared.Figure.{Figure}
+use Rattle.steps.specs.Steps.{pointsFor}
 use Rattle.figures.specs.declared.Supplied.{Supplied}
 use Rattle.figures.specs.Figures.{stepAt, listEnd, lastAt, nextAt, figureRows, noneSupplied, readFigure}
+use Rattle.site.specs.Site.{nextAllowed, minimumPoints}
 
 -- what a call is given for a figure: no file, or one
 pub data Lent : Type 0 where
@@ -58,3 +63,25 @@ pub record GoodFigure (f : List ℕ) : Type 0 where
   pub last : GoodList f lastAt
   pub next : GoodList f (nextAt f)
   pub whole : length f ≡ listEnd f (nextAt f)
+
+-- What it asks for, in the words of the rules
+
+-- a distance at a site reaches step i of the list at a place: 100 times the distance is at least the least distance times the diameter
+abbrev pub ReachesStep : List ℕ → ℕ → Site → ℕ → ℕ → Type 0
+ReachesStep f at s distance i = stepAt f at i .least * diameter s .over ≤ 100 * (distance * diameter s .under)
+
+-- step i is the one that a distance takes: the last that it reaches, or the first if it reaches none
+pub record Takes (f : List ℕ) (at : ℕ) (s : Site) (distance i : ℕ) : Type 0 where
+  pub inside : i < byteAt f at
+  pub own : ReachesStep f at s distance i ⊎ (i ≡ 0)
+  pub last : (k : ℕ) → i < k → k < byteAt f at → ReachesStep f at s distance k → ⊥
+
+-- the least number of points: the higher number of the two steps that the distances take, raised to the next allowed one
+pub record LeastBySteps (f : List ℕ) (s : Site) : Type 0 where
+  pub i : ℕ
+  pub j : ℕ
+  pub last : Takes f lastAt s (s .last) i
+  pub next : Takes f (nextAt f) s (s .next) j
+  pub least :
+      minimumPoints (readFigure f .figure) s
+      ≡ nextAllowed (s .shape) (max (pointsFor s (stepAt f lastAt i)) (pointsFor s (stepAt f (nextAt f) j)))
