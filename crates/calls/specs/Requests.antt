@@ -8,7 +8,8 @@ use Rattle.output.specs.Answers.{packed}
 use Rattle.layouts.specs.Outcomes.{roundOutcome, rectangleOutcome}
 use Rattle.counting.specs.Counting.{countAnswer, numberAnswer}
 use Rattle.figures.specs.Figures.{noneSupplied, readFigure}
-use Rattle.leverbonnet.specs.Calls.{Reduces, PrintsText, LaysOut}
+use Rattle.explanations.specs.declared.Form.the-variants.{Bytes, Text}
+use Rattle.leverbonnet.specs.Calls.{Reduces, PrintsText, ExplainsFinding, LaysOut}
 
 -- The call's number, the three numbers that it takes, the figure and the job, both outputs before and after, and the answer
 module _ (call a b c : ℕ) (figure job first second firstOut secondOut : List ℕ) (r : ℕ) where
@@ -22,7 +23,11 @@ module _ (call a b c : ℕ) (figure job first second firstOut secondOut : List �
     bySheetText : call ≡ 6 → PrintsText noneSupplied job first firstOut r → secondOut ≡ second → ByCall
     byReduceByFigure : call ≡ 7 → Reduces (readFigure figure) job a first second firstOut secondOut r → ByCall
     bySheetTextByFigure : call ≡ 8 → PrintsText (readFigure figure) job first firstOut r → secondOut ≡ second → ByCall
-    byNone : (1 ≤ call → call ≤ 8 → ⊥) → r ≡ 0 → firstOut ≡ first → secondOut ≡ second → ByCall
+    byExplain : call ≡ 9 → ExplainsFinding Bytes noneSupplied job a b c first firstOut r → secondOut ≡ second → ByCall
+    byExplainByFigure : call ≡ 10 → ExplainsFinding Bytes (readFigure figure) job a b c first firstOut r → secondOut ≡ second → ByCall
+    byExplainText : call ≡ 11 → ExplainsFinding Text noneSupplied job a b c first firstOut r → secondOut ≡ second → ByCall
+    byExplainTextByFigure : call ≡ 12 → ExplainsFinding Text (readFigure figure) job a b c first firstOut r → secondOut ≡ second → ByCall
+    byNone : (1 ≤ call → call ≤ 12 → ⊥) → r ≡ 0 → firstOut ≡ first → secondOut ≡ second → ByCall
 
 -- the call and its numbers are those of the header
 abbrev pub Replied : List ℕ → List ℕ → List ℕ → List ℕ → List ℕ → List ℕ → List ℕ → ℕ → Type 0

@@ -3,7 +3,8 @@
 // A request is a header of 18 bytes, then the figure's bytes, then the job's:
 //
 //     0       the call: 1 reduce, 2 run_count, 3 run_number, 4 round_layout, 5 rect_layout, 6 sheet_text,
-//             7 reduce_by_figure, 8 sheet_text_by_figure
+//             7 reduce_by_figure, 8 sheet_text_by_figure, 9 explain, 10 explain_by_figure, 11 explain_text,
+//             12 explain_text_by_figure
 //     1       what every byte of both outputs is before the call
 //     2 to 7  three u16, in the order in which the call takes its numbers
 //     8, 10   the lengths of the outputs, u16, the second at most 4,096
@@ -20,6 +21,10 @@ ghost use lib.ListN.{length, replicate};
 ghost use Rattle.io.specs.Counts.{Counts};
 ghost use Rattle.calls.specs.Requests.{Replied};
 use fields::numbers;
+use leverbonnet::leverbonnet_explain;
+use leverbonnet::leverbonnet_explain_by_figure;
+use leverbonnet::leverbonnet_explain_text;
+use leverbonnet::leverbonnet_explain_text_by_figure;
 use leverbonnet::leverbonnet_rect_layout;
 use leverbonnet::leverbonnet_reduce;
 use leverbonnet::leverbonnet_reduce_by_figure;
@@ -77,6 +82,10 @@ fn answer(
         6 => leverbonnet_sheet_text(job, first),
         7 => leverbonnet_reduce_by_figure(figure, job, a, first, second),
         8 => leverbonnet_sheet_text_by_figure(figure, job, first),
+        9 => leverbonnet_explain(job, a, b, c, first),
+        10 => leverbonnet_explain_by_figure(figure, job, a, b, c, first),
+        11 => leverbonnet_explain_text(job, a, b, c, first),
+        12 => leverbonnet_explain_text_by_figure(figure, job, a, b, c, first),
         _ => 0,
     }
 }

@@ -36,7 +36,7 @@ pub struct Findings {
 }
 
 // What the rules may see of a run beside the part that each looks at.
-fn beside_of(figure: Figure, run: Run, chosen: Chosen, lines: Lines) -> Beside
+pub fn beside_of(figure: Figure, run: Run, chosen: Chosen, lines: Lines) -> Beside
     requires { ⌜ run .header .counts .weighings ≤ greatestWeighingCount ⌝ }
     ensures { λ r. ⌜ r ≡ besideOf figure run chosen lines ⌝ }
 {

@@ -6,7 +6,10 @@ pub mod comparison;
 use crate::comparison::Comparison;
 use crate::comparison::ExactComparison;
 ghost use mathlib.Core.Path.{_≡_};
+ghost use mathlib.Core.Bool.{cond};
+ghost use lib.ListN.{length};
 ghost use Rattle.grounds.specs.Grounds.{broken};
+ghost use Rattle.grounds.specs.Showing.{shown};
 
 pub enum Ground {
     // What the rule speaks of is not there.
@@ -41,4 +44,24 @@ impl Ground {
             Ground::SignedBelow(left, right) => left < right,
         }
     }
+
+    // How many of its conditions are broken.
+    pub fn shown(self) -> u8
+        ensures { λ r. ⌜ r ≡ length (shown self) ⌝ }
+    {
+        match self {
+            Ground::Silent => 0,
+            Ground::NoCertificate => 0,
+            Ground::Compared(c) => one_if(c.holds()),
+            Ground::Either(a, b) => one_if(a.holds()) + one_if(b.holds()),
+            Ground::Exactly(c) => one_if(c.deciding().holds()),
+            Ground::SignedBelow(left, right) => one_if(left < right),
+        }
+    }
+}
+
+fn one_if(holds: bool) -> u8
+    ensures { λ r. ⌜ r ≡ cond holds 1 0 ⌝ }
+{
+    if holds { 1 } else { 0 }
 }

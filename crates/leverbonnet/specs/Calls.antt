@@ -9,6 +9,8 @@ use Rattle.printing.specs.Printing.{printingBy, printingAnswer, printingOut}
 use Rattle.layouts.specs.Outcomes.{LayoutOutcome, layoutAnswer, layoutOut}
 use Rattle.handing.specs.Handing.{answerOf, linesAfter, findingsAfter}
 use Rattle.runs.specs.Outcomes.{outcomeBy}
+use Rattle.explanations.specs.declared.Form.{Form}
+use Rattle.explanations.specs.Outcomes.{explainingBy}
 
 -- leverbonnet_reduce, and the same by a figure: the answer, and every byte of both buffers
 pub record Reduces (f : Supplied) (s : List ℕ) (run : ℕ) (linesIn findingsIn linesOut findingsOut : List ℕ) (r : ℕ) : Type 0 where
@@ -25,3 +27,8 @@ pub record LaysOut (o : LayoutOutcome) (old new : List ℕ) (r : ℕ) : Type 0 w
 pub record PrintsText (f : Supplied) (s old new : List ℕ) (r : ℕ) : Type 0 where
   pub answer : r ≡ packed (printingAnswer (printingBy f s (length old)))
   pub out : new ≡ printingOut (printingBy f s (length old)) old
+
+-- leverbonnet_explain and leverbonnet_explain_text, and the same by a figure: the answer, and every byte of the output
+pub record ExplainsFinding (form : Form) (f : Supplied) (s : List ℕ) (run rule place : ℕ) (old new : List ℕ) (r : ℕ) : Type 0 where
+  pub answer : r ≡ packed (printingAnswer (explainingBy form f s run rule place (length old)))
+  pub out : new ≡ printingOut (explainingBy form f s run rule place (length old)) old

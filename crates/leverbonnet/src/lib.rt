@@ -1,5 +1,6 @@
 // The public calls. Each takes any bytes and any numbers, and its contract says what comes back and what every lent byte then is.
-// Relies on the calls for runs and their numbers, for the printed text and for layouts, and on `output`, which makes an answer one number.
+// Relies on the calls for runs and their numbers, for findings, for the printed text and for layouts, and on `output`, which makes an answer
+// one number.
 
 ghost use mathlib.Core.Path.{_≡_};
 ghost use Rattle.output.specs.Answers.{packed};
@@ -7,7 +8,11 @@ ghost use lib.ListN.{length};
 ghost use Rattle.layouts.specs.Outcomes.{roundOutcome, rectangleOutcome};
 ghost use Rattle.counting.specs.Counting.{countAnswer, numberAnswer};
 ghost use Rattle.figures.specs.Figures.{noneSupplied, readFigure};
-ghost use Rattle.leverbonnet.specs.Calls.{Reduces, PrintsText, LaysOut};
+ghost use Rattle.explanations.specs.declared.Form.the-variants.{Bytes, Text};
+ghost use Rattle.leverbonnet.specs.Calls.{Reduces, PrintsText, ExplainsFinding, LaysOut};
+use explanations::Form;
+use explanations::calls::explain;
+use explanations::calls::explain_by_figure;
 
 // Works the run of that number: 180 bytes of lines, 4 bytes a finding.
 #[no_mangle]
@@ -66,6 +71,64 @@ pub extern "C" fn leverbonnet_sheet_text_by_figure(figure: &[u8], job: &[u8], ou
     ensures { λ r. ⌜ PrintsText (readFigure (now (figure .entry))) (now (job .entry)) (now (out .entry)) (now (out .exit)) r ⌝ }
 {
     printing::calls::sheet_text_by_figure(figure, job, out).packed()
+}
+
+// Explains the finding of that rule at that place of the run of that number: 2 bytes, 34 bytes a condition, 5 bytes a certificate day.
+#[no_mangle]
+pub extern "C" fn leverbonnet_explain(
+    job: &[u8],
+    run: u16,
+    rule: u16,
+    place: u16,
+    out: &mut [u8],
+) -> u64
+    ensures { λ r. ⌜ ExplainsFinding Bytes noneSupplied (now (job .entry)) run rule place (now (out .entry)) (now (out .exit)) r ⌝ }
+{
+    explain(Form::Bytes, steps::none(), job, run, rule, place, out).packed()
+}
+
+// The same by a figure, which is judged before the job is read.
+#[no_mangle]
+pub extern "C" fn leverbonnet_explain_by_figure(
+    figure: &[u8],
+    job: &[u8],
+    run: u16,
+    rule: u16,
+    place: u16,
+    out: &mut [u8],
+) -> u64
+    ensures { λ r. ⌜ ExplainsFinding Bytes (readFigure (now (figure .entry))) (now (job .entry)) run rule place (now (out .entry)) (now (out .exit)) r ⌝ }
+{
+    explain_by_figure(Form::Bytes, figure, job, run, rule, place, out).packed()
+}
+
+// The same as characters.
+#[no_mangle]
+pub extern "C" fn leverbonnet_explain_text(
+    job: &[u8],
+    run: u16,
+    rule: u16,
+    place: u16,
+    out: &mut [u8],
+) -> u64
+    ensures { λ r. ⌜ ExplainsFinding Text noneSupplied (now (job .entry)) run rule place (now (out .entry)) (now (out .exit)) r ⌝ }
+{
+    explain(Form::Text, steps::none(), job, run, rule, place, out).packed()
+}
+
+// The same by a figure, which is judged before the job is read.
+#[no_mangle]
+pub extern "C" fn leverbonnet_explain_text_by_figure(
+    figure: &[u8],
+    job: &[u8],
+    run: u16,
+    rule: u16,
+    place: u16,
+    out: &mut [u8],
+) -> u64
+    ensures { λ r. ⌜ ExplainsFinding Text (readFigure (now (figure .entry))) (now (job .entry)) run rule place (now (out .entry)) (now (out .exit)) r ⌝ }
+{
+    explain_by_figure(Form::Text, figure, job, run, rule, place, out).packed()
 }
 
 // Lays out a round stack: points on the diameter, diameter in 0.1 in, nozzle in 0.001 in; 4 bytes a distance.

@@ -17,6 +17,10 @@ unknownRun = 10
 abbrev pub outsideRanges : ℕ
 outsideRanges = 11
 
+-- the run does not have that finding
+abbrev pub unknownFinding : ℕ
+unknownFinding = 15
+
 -- the refusal's number in the high 32 bits, 0 for none; its place, or the value, in the low 32
 unfoldable pub packed : Answer → ℕ
 packed (Done value) = value

@@ -17,12 +17,14 @@ pub enum Answer {
 
 impl Answer {
     // Why a call is refused, apart from its file: a lent output that is too short, no run of that number, a traverse layout
-    // outside its ranges.
+    // outside its ranges, a finding that the run does not have.
     pub const SHORT_OUTPUT: u32 = 9;
 
     pub const UNKNOWN_RUN: u32 = 10;
 
     pub const OUTSIDE_RANGES: u32 = 11;
+
+    pub const UNKNOWN_FINDING: u32 = 15;
 
     // The answer as the caller sees it: the refusal's number in the high 32 bits, 0 where there is none.
     pub fn packed(self) -> u64

@@ -23,7 +23,7 @@ fn put_class(out: &mut [u8], at: usize, class: u8) -> usize
 }
 
 // A finding: what it is, its rule and its place.
-fn put_finding(out: &mut [u8], at: usize, f: Finding) -> usize
+pub fn put_finding(out: &mut [u8], at: usize, f: Finding) -> usize
     requires { ⌜ Room (now out) at (findingText f) ⌝ }
     ensures { λ r. ⌜ Wrote (now (out .entry)) at (findingText f) (now (out .exit)) r ⌝ }
 {

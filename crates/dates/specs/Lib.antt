@@ -1,0 +1,2 @@
+-- The certificate days behind a finding.
+pub mod Dates

@@ -1,0 +1,2 @@
+-- A finding explained.
+pub mod Explaining

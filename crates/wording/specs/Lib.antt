@@ -1,0 +1,2 @@
+-- What each condition of a rule compares, in words.
+pub mod Wording
