@@ -179,10 +179,15 @@ fn sides_with_later(
     requires { ⌜ (v ≡ versionOf (now s)) × (certificatePlace v count ≤ length (now s)) ⌝ }
     ensures { λ r. ⌜ r ≡ sidesOf used before (chosen true kind identity day (certificateOf (now (s .entry))) count) ⌝ }
 {
-    let Use::Both = used else {
-        return sides_of(used, before, Lookup::Nothing);
-    };
-    sides_of(used, before, choose(s, v, count, kind, identity, day, true))
+    match used {
+        Use::Neither => sides_of(used, before, Lookup::Nothing),
+        Use::Before => sides_of(used, before, Lookup::Nothing),
+        Use::Both => sides_of(
+            used,
+            before,
+            choose(s, v, count, kind, identity, day, true),
+        ),
+    }
 }
 
 // The days that a rule uses, of a run with those certificates chosen among the first `count` of a file.

@@ -1,41 +1,40 @@
+-- `days_of` is `daysOf`, kind by kind.
+use Rattle.choosing.specs.Choosing.{chosenFor}
+use Rattle.dates.specs.Dates.{daysOf}
 use borrow.Author.Needs.{needs}
 use Rattle.dates.proofs.days_of.Statement.{statement}
 use Rattle.dates.proofs.days_of.Tie as tie
-use Rattle.dates.proofs.days_of.Reads as reads
-use Rattle.dates.proofs.days_of.Lts as lts
-use Rattle.dates.proofs.meter_use.Reads as meter-use-reads
-use Rattle.dates.proofs.nozzle_use.Reads as nozzle-use-reads
-use Rattle.dates.proofs.pitot_use.Reads as pitot-use-reads
-use Rattle.dates.proofs.sides_of.Reads as sides-of-reads
-use Rattle.dates.proofs.sides_with_later.Reads as sides-with-later-reads
 
--- src/lib.rt:206:25
 meter-use-requires : tie.Need-meter-use-requires
 meter-use-requires c κs = search needs
 
--- src/lib.rt:206:16
 sides-of-requires : tie.Need-sides-of-requires
 sides-of-requires c κs = search needs
 
--- src/lib.rt:214:13
 pitot-use-requires : tie.Need-pitot-use-requires
 pitot-use-requires c κs = search needs
 
--- src/lib.rt:207:16
 sides-with-later-requires : tie.Need-sides-with-later-requires
 sides-with-later-requires c κs = search needs
 
--- src/lib.rt:224:13
 nozzle-use-requires : tie.Need-nozzle-use-requires
 nozzle-use-requires c κs = search needs
 
--- src/lib.rt:217:17
 sides-with-later-requires-2 : tie.Need-sides-with-later-requires-2
 sides-with-later-requires-2 c κs = search needs
 
--- src/lib.rt:189:1
 returns : tie.Need-returns
-returns c = ?
+unfolding daysOf chosenFor
+returns c =
+    let start = c .before .before .before .before .before .before .before in
+    let meter-use = c .before .before .before .before .before .meter-use .ensures in
+    let pitot-use = c .before .before .before .pitot-use .ensures in
+    let nozzle-use = c .before .nozzle-use .ensures in
+    λ i. record {
+      meter = rw (meter-use, start .pre .1) at (c .before .before .before .before .sides-of .ensures) i;
+      pitot = rw (pitot-use, start .pre .1) at (c .before .before .sides-with-later .ensures) i;
+      nozzle = rw (nozzle-use, start .pre .1) at (c .sides-with-later2 .ensures) i;
+    }
 
 pub days-of-spec : {M : Type 1} → statement M
 days-of-spec =

@@ -1,49 +1,50 @@
+-- The meter's column of the table.
+use mathlib.Core.List.{[], _∷_}
+use Rattle.dates.specs.Dates.{meterUse}
+use Rattle.dates.proofs.Rest.{Besides, not-one-of}
 use borrow.Author.Needs.{needs}
 use Rattle.dates.proofs.meter_use.Statement.{statement}
 use Rattle.dates.proofs.meter_use.Tie as tie
-use Rattle.dates.proofs.meter_use.Reads as reads
-use Rattle.dates.proofs.meter_use.Lts as lts
-use Rattle.dates.proofs.worked_use.Reads as worked-use-reads
 
--- src/lib.rt:105:15
 worked-use-requires : tie.Need-worked-use-requires
 worked-use-requires c κs = search needs
 
--- src/lib.rt:106:15
 worked-use-requires-2 : tie.Need-worked-use-requires-2
 worked-use-requires-2 c κs = search needs
 
--- src/lib.rt:107:15
 worked-use-requires-3 : tie.Need-worked-use-requires-3
 worked-use-requires-3 c κs = search needs
 
--- src/lib.rt:98:1
 returns : tie.Need-returns
-returns c = ?
+unfolding meterUse
+returns c = rw (c .match .keys1)
 
--- src/lib.rt:98:1
 returns-2 : tie.Need-returns-2
-returns-2 c = ?
+unfolding meterUse
+returns-2 c = rw (c .match .keys2)
 
--- src/lib.rt:98:1
 returns-3 : tie.Need-returns-3
-returns-3 c = ?
+unfolding meterUse
+returns-3 c = rw (c .match .keys3)
 
--- src/lib.rt:98:1
 returns-4 : tie.Need-returns-4
-returns-4 c = ?
+unfolding meterUse
+returns-4 c = rw (c .before .match .keys4) (c .worked-use .ensures)
 
--- src/lib.rt:98:1
 returns-5 : tie.Need-returns-5
-returns-5 c = ?
+unfolding meterUse
+returns-5 c = rw (c .before .match .keys5) (c .worked-use2 .ensures)
 
--- src/lib.rt:98:1
 returns-6 : tie.Need-returns-6
-returns-6 c = ?
+unfolding meterUse
+returns-6 c = rw (c .before .match .keys6) (c .worked-use3 .ensures)
 
--- src/lib.rt:98:1
 returns-7 : tie.Need-returns-7
-returns-7 c = ?
+unfolding meterUse
+returns-7 c = 
+    let rule = c .before .args .rule in
+    let (not-later, rest) = not-one-of (14 ∷ 15 ∷ 16 ∷ []) rule (Besides (1 ∷ 4 ∷ 5 ∷ []) rule Unit) (c .match .rest) in
+    rw (not-one-of (1 ∷ 4 ∷ 5 ∷ []) rule Unit rest .0, not-later)
 
 pub meter-use-spec : {M : Type 1} → statement M
 meter-use-spec =

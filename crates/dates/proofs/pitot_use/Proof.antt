@@ -1,27 +1,32 @@
+-- The pitot tube's column of the table.
+use mathlib.Core.List.{[], _∷_}
+use Rattle.dates.specs.Dates.{pitotUse}
+use Rattle.dates.proofs.Rest.{Besides, not-one-of}
 use Rattle.dates.proofs.pitot_use.Statement.{statement}
 use Rattle.dates.proofs.pitot_use.Tie as tie
-use Rattle.dates.proofs.pitot_use.Reads as reads
-use Rattle.dates.proofs.pitot_use.Lts as lts
 
--- src/lib.rt:113:1
 returns : tie.Need-returns
-returns c = ?
+unfolding pitotUse
+returns c = rw (c .match .keys1)
 
--- src/lib.rt:113:1
 returns-2 : tie.Need-returns-2
-returns-2 c = ?
+unfolding pitotUse
+returns-2 c = rw (c .match .keys2)
 
--- src/lib.rt:113:1
 returns-3 : tie.Need-returns-3
-returns-3 c = ?
+unfolding pitotUse
+returns-3 c = rw (c .match .keys3)
 
--- src/lib.rt:113:1
 returns-4 : tie.Need-returns-4
-returns-4 c = ?
+unfolding pitotUse
+returns-4 c = rw (c .match .keys4)
 
--- src/lib.rt:113:1
 returns-5 : tie.Need-returns-5
-returns-5 c = ?
+unfolding pitotUse
+returns-5 c = 
+    let rule = c .before .args .rule in
+    let (not-later, rest) = not-one-of (14 ∷ 15 ∷ 16 ∷ []) rule (Besides (2 ∷ []) rule Unit) (c .match .rest) in
+    rw (not-one-of (2 ∷ []) rule Unit rest .0, not-later)
 
 pub pitot-use-spec : {M : Type 1} → statement M
 pitot-use-spec = tie.close (tie.spec returns returns-2 returns-3 returns-4 returns-5)

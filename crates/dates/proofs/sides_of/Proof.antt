@@ -1,45 +1,38 @@
+-- Use by use.
+use Rattle.dates.specs.Dates.{sidesOf}
 use borrow.Author.Needs.{needs}
 use Rattle.dates.proofs.sides_of.Statement.{statement}
 use Rattle.dates.proofs.sides_of.Tie as tie
-use Rattle.dates.proofs.sides_of.Reads as reads
-use Rattle.dates.proofs.sides_of.Lts as lts
-use Rattle.dates.proofs.day_of.Reads as day-of-reads
 
--- src/lib.rt:154:21
 enum-told : tie.Need-enum-told
 enum-told c = search needs
 
--- src/lib.rt:158:21
 enum-told-2 : tie.Need-enum-told-2
 enum-told-2 c = search needs
 
--- src/lib.rt:158:21
 day-of-requires : tie.Need-day-of-requires
 day-of-requires c κs = search needs
 
--- src/lib.rt:162:21
 enum-told-3 : tie.Need-enum-told-3
 enum-told-3 c = search needs
 
--- src/lib.rt:162:21
 day-of-requires-2 : tie.Need-day-of-requires-2
 day-of-requires-2 c κs = search needs
 
--- src/lib.rt:163:20
 day-of-requires-3 : tie.Need-day-of-requires-3
 day-of-requires-3 c κs = search needs
 
--- src/lib.rt:149:1
 returns : tie.Need-returns
-returns c = ?
+unfolding sidesOf
+returns c = rw (c .enum-told .given .1)
 
--- src/lib.rt:149:1
 returns-2 : tie.Need-returns-2
-returns-2 c = ?
+unfolding sidesOf
+returns-2 c = rw (c .before .enum-told2 .given .1, ← c .day-of .ensures)
 
--- src/lib.rt:149:1
 returns-3 : tie.Need-returns-3
-returns-3 c = ?
+unfolding sidesOf
+returns-3 c = rw (c .before .before .enum-told3 .given .1, ← c .day-of3 .ensures, ← c .before .day-of2 .ensures)
 
 pub sides-of-spec : {M : Type 1} → statement M
 sides-of-spec =

@@ -1,32 +1,29 @@
+-- Day by day.
+use Rattle.dates.specs.Dates.{entriesOn}
 use borrow.Author.Needs.{needs}
 use Rattle.dates.proofs.Day.entries.Statement.{statement}
 use Rattle.dates.proofs.Day.entries.Tie as tie
-use Rattle.dates.proofs.Day.entries.Reads as reads
-use Rattle.dates.proofs.Day.entries.Lts as lts
 
--- src/lib.rt:58:28
 enum-told : tie.Need-enum-told
 enum-told c = search needs
 
--- src/lib.rt:59:21
 enum-known-self : tie.Need-enum-known-self
 enum-known-self c = search needs
 
--- src/lib.rt:60:33
 enum-told-2 : tie.Need-enum-told-2
 enum-told-2 c = search needs
 
--- src/lib.rt:54:5
 returns : tie.Need-returns
-returns c = ?
+unfolding entriesOn
+returns c = rw (c .enum-told .given .1)
 
--- src/lib.rt:54:5
 returns-2 : tie.Need-returns-2
-returns-2 c = ?
+unfolding entriesOn
+returns-2 c = rw (c .before .self .given .1)
 
--- src/lib.rt:54:5
 returns-3 : tie.Need-returns-3
-returns-3 c = ?
+unfolding entriesOn
+returns-3 c = rw (c .enum-told2 .given .1)
 
 pub entries-spec : {M : Type 1} → statement M
 entries-spec =

@@ -1,0 +1,3 @@
+-- The laws of the days.
+pub mod Rest
+pub mod Entries
