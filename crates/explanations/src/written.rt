@@ -14,7 +14,7 @@ use grounds::comparison::Way;
 use output::signed_bits;
 use readings::certificates::CertificateKind;
 use reasons::bytes;
-use reasons::text;
+use reasons::texts;
 use text::runs::put_finding;
 ghost use mathlib.Core.List.{[], _∷_};
 ghost use Rattle.dates.specs.declared.Day.the-variants.{On, NoneSoDated};
@@ -39,7 +39,7 @@ fn put_numbers(
     let way = c.way;
     match form {
         Form::Bytes => bytes::put_condition(out, at, which, way, c.left, c.right, 0, 0),
-        Form::Text => text::put_numbers(out, at, rule, round, which, c),
+        Form::Text => texts::put_numbers(out, at, rule, round, which, c),
     }
 }
 
@@ -58,7 +58,7 @@ fn put_exactly(
     let way = c.way;
     match form {
         Form::Bytes => bytes::put_condition(out, at, 1, way, c.quotient, c.limit, c.remainder, 0),
-        Form::Text => text::put_exactly(out, at, rule, round, c),
+        Form::Text => texts::put_exactly(out, at, rule, round, c),
     }
 }
 
@@ -86,7 +86,7 @@ fn put_below(
             0,
             0,
         ),
-        Form::Text => text::put_below(out, at, rule, round, left, right),
+        Form::Text => texts::put_below(out, at, rule, round, left, right),
     }
 }
 
@@ -144,7 +144,7 @@ fn put_dated(form: Form, out: &mut [u8], at: usize, kind: u8, side: u8, day: u16
 {
     match form {
         Form::Bytes => bytes::put_day(out, at, kind, side, 1, day),
-        Form::Text => text::put_dated(out, at, kind, side, day),
+        Form::Text => texts::put_dated(out, at, kind, side, day),
     }
 }
 
@@ -155,7 +155,7 @@ fn put_undated(form: Form, out: &mut [u8], at: usize, kind: u8, side: u8) -> usi
 {
     match form {
         Form::Bytes => bytes::put_day(out, at, kind, side, 0, 0),
-        Form::Text => text::put_undated(out, at, kind, side),
+        Form::Text => texts::put_undated(out, at, kind, side),
     }
 }
 

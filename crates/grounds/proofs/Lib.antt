@@ -1,3 +1,3 @@
--- The law of exact comparisons, which the layers above cite.
+-- The laws that the layers above cite.
 pub mod Exactly
 pub mod Showing

@@ -2,4 +2,4 @@
 // words of the rules.
 
 pub mod bytes;
-pub mod text;
+pub mod texts;
