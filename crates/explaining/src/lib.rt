@@ -1,6 +1,7 @@
 // A finding of a run explained: what its rule goes by at its place, and the certificate days that it uses.
 // Relies on the table of the rules, as the list of findings does, and on what a reduced run relies on.
 
+use arith::less;
 use choosing::Chosen;
 use conditions::Part;
 use dates::Days;
@@ -45,8 +46,8 @@ fn ground_at(figure: Figure, run: Run, chosen: Chosen, lines: Lines, rule: u8, p
 {
     let header = run.header;
     let counts = header.counts;
-    let index = if place == 0 { 0 } else { place - 1 };
-    if index >= classes::places(counts, rule) as u16 {
+    let index = less(place as u64, 1);
+    if index >= classes::places(counts, rule) as u64 {
         return Ground::Silent;
     }
     let i = index as u8;

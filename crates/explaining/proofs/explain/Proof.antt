@@ -1,73 +1,82 @@
+-- Each call's promise, one after another.
+use mathlib.Core.Path.{_≡_, refl, sym, _∙_}
+use borrow.Author.Tests.{not-true, not-false}
 use borrow.Author.Needs.{needs}
+use Rattle.choosing.specs.Choosing.{chosenFor}
+use Rattle.heads.specs.Values.{certificateOf}
+use Rattle.findings.specs.Listing.{linesFor}
+use Rattle.reduction.proofs.Working.{lines-workable, lines-worked}
+use Rattle.explaining.proofs.Because.{beyond, no-finding, because}
 use Rattle.explaining.proofs.explain.Statement.{statement}
 use Rattle.explaining.proofs.explain.Tie as tie
-use Rattle.explaining.proofs.explain.Reads as reads
-use Rattle.explaining.proofs.explain.Lts as lts
-use Rattle.certs.proofs.choose_all.Reads as choose-all-reads
-use Rattle.classes.proofs.class.Reads as class-reads
-use Rattle.dates.proofs.days_of.Reads as days-of-reads
-use Rattle.explaining.proofs.ground_at.Reads as ground-at-reads
-use Rattle.factors.proofs.coefficient_of.Reads as coefficient-of-reads
-use Rattle.factors.proofs.diameters_of.Reads as diameters-of-reads
-use Rattle.factors.proofs.factor_of.Reads as factor-of-reads
-use Rattle.grounds.proofs.Ground.broken.Reads as broken-reads
-use Rattle.lines.proofs.sheets.lines.Reads as lines-reads
 
--- src/lib.rt:82:15
 cast-if1 : tie.Need-cast-if1
 cast-if1 c = search needs
 
--- src/lib.rt:83:9
 returns : tie.Need-returns
-returns c = ?
+returns c = beyond _ _ _ _ _ _ _ (c .if1 .taken)
 
--- src/lib.rt:85:18
 cast-number : tie.Need-cast-number
 cast-number c = search needs
 
--- src/lib.rt:87:9
 choose-all-requires : tie.Need-choose-all-requires
-choose-all-requires c κs = ?
+choose-all-requires c κs = 
+    let start = c .before .before .before in
+    (start .pre .0, rw (start .pre .0) (start .pre .1 .within))
 
--- src/lib.rt:88:9
 factor-of-requires : tie.Need-factor-of-requires
 factor-of-requires c κs = search needs
 
--- src/lib.rt:89:9
 coefficient-of-requires : tie.Need-coefficient-of-requires
 coefficient-of-requires c κs = search needs
 
--- src/lib.rt:90:9
 diameters-of-requires : tie.Need-diameters-of-requires
 diameters-of-requires c κs = search needs
 
--- src/lib.rt:91:9
 lines-requires : tie.Need-lines-requires
-lines-requires c κs = ?
+lines-requires c κs = lines-workable _ _ _ _ (c .before .before .before .before .before .before .before .pre .1 .reducible) (c .before .before .before .choose-all .ensures) (c .before .before .factor-of .ensures) (c .before .coefficient-of .ensures) (c .diameters-of .ensures)
 
--- src/lib.rt:92:9
 ground-at-requires : tie.Need-ground-at-requires
-ground-at-requires c κs = ?
+ground-at-requires c κs = 
+    record {
+      ok = c .before .before .before .before .before .before .before .before .pre .1 .reducible .run;
+      y = _;
+      cp = _;
+      nozzle = _;
+      is = c .lines .ensures .0;
+    }
 
--- src/lib.rt:93:9
 broken-requires : tie.Need-broken-requires
 broken-requires c κs = search needs
 
--- src/lib.rt:94:9
-returns-2 : tie.Need-returns-2
-returns-2 c = ?
+-- what the ground is judged from: the certificates chosen, and the lines that they give
+abbrev begun : tie.After-ground-at → tie.Start
+begun d = d .before .before .before .before .before .before .before .before .before
 
--- src/lib.rt:98:16
+chosen : (d : tie.After-ground-at) → d .before .before .before .before .before .choose-all .result ≡ chosenFor (certificateOf (begun d .args .s .now)) (begun d .args .count) (begun d .args .run .header)
+chosen d = d .before .before .before .before .before .choose-all .ensures
+
+worked : (d : tie.After-ground-at) → d .before .lines .result ≡ linesFor (begun d .args .v) (begun d .args .run) (d .before .before .before .before .before .choose-all .result)
+worked d = lines-worked (begun d .args .v) _ _ (d .before .before .before .before .factor-of .ensures) (d .before .before .before .coefficient-of .ensures) (d .before .before .diameters-of .ensures) (d .before .lines .ensures .0)
+
+returns-2 : tie.Need-returns-2
+returns-2 c = 
+    let done = c .before .before in
+    no-finding (begun done .args .v) _ _ _ _ _ _ (chosen done) (worked done) (done .ground-at .ensures) (sym (c .before .broken .ensures) ∙ not-true _ (c .if2 .taken))
+
 class-requires : tie.Need-class-requires
 class-requires c κs = search needs
 
--- src/lib.rt:105:15
 days-of-requires : tie.Need-days-of-requires
-days-of-requires c κs = ?
+days-of-requires c κs = 
+    let done = c .before .before .before .before in
+    let start = begun done in
+    ((start .pre .0, rw (start .pre .0) (start .pre .1 .within)), chosen done)
 
--- src/lib.rt:70:1
 returns-3 : tie.Need-returns-3
-returns-3 c = ?
+returns-3 c = 
+    let done = c .before .before .before .before .before in
+    because (begun done .args .v) _ _ _ _ _ _ (chosen done) (worked done) (done .ground-at .ensures) (sym (c .before .before .before .before .broken .ensures) ∙ not-false _ (c .before .before .before .if2 .left)) (c .before .before .class .ensures) refl (c .days-of .ensures)
 
 pub explain-spec : {M : Type 1} → statement M
 explain-spec =

@@ -1,9 +1,9 @@
 -- The run is read at its place and worked with the certificates that the job holds.
 use native.Mathlib.Omega.{arith}
-use mathlib.Core.Path.{_∙_, ap, _≡_}
-use Rattle.reduction.specs.Reducing.{reduction, reducedRun, ReducibleFrom, ClearRun}
-use Rattle.job.proofs.ReadJobs.{few-runs, count-of-runs, count-of-certificates, start-of, lies-within}
-use Rattle.reduction.proofs.ClearJobs.{workable}
+use mathlib.Core.Path.{_∙_, _≡_}
+use Rattle.reduction.specs.Reducing.{reduction, reducedRun, ClearRun}
+use Rattle.job.proofs.ReadJobs.{few-runs, count-of-runs, count-of-certificates, lies-within}
+use Rattle.reduction.proofs.ClearJobs.{workable, this-run, ready}
 use Prim.Native.Nat.{ℕ}
 use mathlib.Core.List.{List}
 use lib.ListN.{getD}
@@ -13,17 +13,10 @@ use Rattle.steps.specs.declared.Figure.{Figure}
 use Rattle.opening.specs.Opening.{versionOf}
 use Rattle.heads.specs.Values.{certificateOf}
 use Rattle.job.specs.declared.Job.{Job}
-use Rattle.job.specs.Places.{runOf}
 use Rattle.parts.specs.Values.{runAt}
 use Rattle.reduction.specs.declared.Reduced.{Reduced}
 use Rattle.reduction.proofs.reduce.Statement.{statement}
 use Rattle.reduction.proofs.reduce.Tie as tie
-
-this-run : {s : List ℕ} {j : Job} {k : ℕ} {r : Run} → ClearRun s j k → r ≡ runAt s (getD (j .starts) k 0) → r ≡ runOf s k
-this-run {s} {j} {k} ok e = e ∙ ap (runAt s) (start-of s j (ok .job) k (ok .inside))
-
-ready : {s : List ℕ} {j : Job} {k : ℕ} {r : Run} → ClearRun s j k → r ≡ runAt s (getD (j .starts) k 0) → ReducibleFrom s (j .certificates) r
-ready {s} {j} {k} ok e = rw (this-run ok e) (workable s j (ok .job) k (ok .inside))
 
 is-reduced : (fig : Figure) {s : List ℕ} {v : Version} {j : Job} {k : ℕ} {r : Run} {done : Reduced} → v ≡ versionOf s → ClearRun s j k → r ≡ runAt s (getD (j .starts) k 0) → done ≡ reduction v fig (certificateOf s) (j .certificates) r → done ≡ reducedRun fig s k
 unfolding reducedRun

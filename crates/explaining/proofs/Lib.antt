@@ -1,0 +1,3 @@
+-- The laws of a finding explained.
+pub mod Speaking
+pub mod Because
