@@ -129,7 +129,8 @@ fn put_ground(form: Form, out: &mut [u8], at: usize, rule: u8, round: bool, grou
             put_exactly(form, out, at, rule, round, c)
         }
         Ground::SignedBelow(left, right) => {
-            if left >= right {
+            let below = left < right;
+            if !below {
                 return at;
             }
             put_below(form, out, at, rule, round, left, right)

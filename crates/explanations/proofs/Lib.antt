@@ -1,0 +1,3 @@
+-- The laws of an explanation written.
+pub mod Unused
+pub mod Shown

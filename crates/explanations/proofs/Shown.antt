@@ -1,0 +1,68 @@
+-- Conditions written: none, one, and one after another.
+use Prim.Native.Nat.{ℕ}
+use mathlib.Core.Path.{_≡_, refl}
+use mathlib.Core.Bool.{Bool, true, false}
+use mathlib.Core.List.{List, [], _∷_, _++_, append-nil}
+use lib.IntN.{ℤ}
+use lib.Signed.{ltZ}
+use Rattle.grounds.specs.declared.comparison.Comparison.{Comparison}
+use Rattle.grounds.specs.declared.comparison.ExactComparison.{ExactComparison}
+use Rattle.grounds.specs.declared.Ground.{Ground}
+use Rattle.grounds.specs.declared.Ground.the-variants.{Silent, NoCertificate, Compared, Either, Exactly, SignedBelow}
+use Rattle.grounds.specs.Comparing.{holds, deciding}
+use Rattle.grounds.specs.Showing.{Condition, Judged, ofNumbers, ofQuotient, ofSigned, _brokenIf_, conditions, brokenOf, shown}
+use Rattle.explanations.specs.declared.Form.{Form}
+use Rattle.explanations.specs.Written.{conditionIn, conditionsIn}
+
+module _ (form : Form) (rule : ℕ) (round : Bool) where
+  -- one that is not broken is not written
+  pub kept-back : (x : Condition) → conditionsIn form rule round (brokenOf ((x brokenIf false) ∷ [])) ≡ []
+  unfolding conditionsIn brokenOf
+  kept-back x = refl
+
+  -- one that is broken is
+  pub one-shown : (x : Condition) → conditionsIn form rule round (brokenOf ((x brokenIf true) ∷ [])) ≡ conditionIn form rule round x
+  unfolding conditionsIn brokenOf
+  one-shown x = append-nil (conditionIn form rule round x)
+
+  -- and what is broken of others stands behind it
+  pub then-others : (x : Condition) (broken : Bool) (js : List Judged) → conditionsIn form rule round (brokenOf ((x brokenIf broken) ∷ js)) ≡ conditionsIn form rule round (brokenOf ((x brokenIf broken) ∷ [])) ++ conditionsIn form rule round (brokenOf js)
+  unfolding conditionsIn brokenOf
+  then-others x true js = rw (append-nil (conditionIn form rule round x))
+  then-others x false js = refl
+
+  -- by the ground: nothing
+  pub silent-text : {g : Ground} → g ≡ Silent → conditionsIn form rule round (shown g) ≡ []
+  unfolding conditionsIn shown conditions brokenOf
+  silent-text e = rw e
+
+  pub no-certificate-text : {g : Ground} → g ≡ NoCertificate → conditionsIn form rule round (shown g) ≡ []
+  unfolding conditionsIn shown conditions brokenOf
+  no-certificate-text e = rw e
+
+  -- two numbers, once or twice
+  pub compared-text : {g : Ground} {c : Comparison} → g ≡ Compared c → conditionsIn form rule round (shown g) ≡ conditionsIn form rule round (brokenOf ((ofNumbers 1 c brokenIf holds c) ∷ []))
+  unfolding shown conditions
+  compared-text e = rw e
+
+  pub either-text : {g : Ground} {a b : Comparison} → g ≡ Either a b → conditionsIn form rule round (shown g) ≡ conditionsIn form rule round (brokenOf ((ofNumbers 1 a brokenIf holds a) ∷ [])) ++ conditionsIn form rule round (brokenOf ((ofNumbers 2 b brokenIf holds b) ∷ []))
+  unfolding shown conditions
+  either-text {a = a} {b} e = rw e (then-others (ofNumbers 1 a) (holds a) ((ofNumbers 2 b brokenIf holds b) ∷ []))
+
+  -- a quotient
+  pub exact-text : {g : Ground} {c : ExactComparison} → g ≡ Exactly c → holds (deciding c) ≡ true → conditionsIn form rule round (shown g) ≡ conditionIn form rule round (ofQuotient c)
+  unfolding shown conditions
+  exact-text {c = c} e h = rw (e, h) (one-shown (ofQuotient c))
+
+  pub exact-kept : {g : Ground} {c : ExactComparison} → g ≡ Exactly c → holds (deciding c) ≡ false → conditionsIn form rule round (shown g) ≡ []
+  unfolding shown conditions
+  exact-kept {c = c} e h = rw (e, h) (kept-back (ofQuotient c))
+
+  -- two signed numbers
+  pub signed-text : {g : Ground} {left right : ℤ} → g ≡ SignedBelow left right → ltZ left right ≡ true → conditionsIn form rule round (shown g) ≡ conditionIn form rule round (ofSigned left right)
+  unfolding shown conditions
+  signed-text {left = left} {right} e h = rw (e, h) (one-shown (ofSigned left right))
+
+  pub signed-kept : {g : Ground} {left right : ℤ} → g ≡ SignedBelow left right → ltZ left right ≡ false → conditionsIn form rule round (shown g) ≡ []
+  unfolding shown conditions
+  signed-kept {left = left} {right} e h = rw (e, h) (kept-back (ofSigned left right))
