@@ -1,6 +1,7 @@
 -- Texts written one after another.
 use Prim.Native.Nat.{ℕ, zero, suc, _+_, _*_, _/_, _%_, _^_, _≤_, _<_}
 use mathlib.Core.Path.{_≡_, refl, sym, _∙_, ap, subst}
+use mathlib.Core.Bool.{Bool, true, false, cond}
 use mathlib.Core.List.{List, [], _∷_, _++_}
 use mathlib.Core.Logic.{_⊎_, inl, inr}
 use native.Mathlib.Omega.{arith}
@@ -128,6 +129,11 @@ module _ {old : List ℕ} {at : ℕ} (a b c d e : List ℕ) (room : Room old at 
 
     pub wrote-five : {o₅ : List ℕ} {p₅ : ℕ} → Wrote o₄ p₄ e o₅ p₅ → Wrote old at (a ++ b ++ c ++ d ++ e) o₅ p₅
     wrote-five y = wrote-more (wrote-four a b c d four u v w x) y room
+
+-- of two texts, whichever it is
+pub either-short : (test : Bool) (a b : List ℕ) (n : ℕ) → length a ≤ n → length b ≤ n → length (cond test a b) ≤ n
+either-short true a b n h k = h
+either-short false a b n h k = k
 
 -- Texts one after another
 

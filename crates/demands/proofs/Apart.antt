@@ -34,7 +34,7 @@ use Rattle.distances.proofs.RectangleLaws.{rectangle-ok, grid-ok}
 use Rattle.traverse.proofs.Theorems.{round-length, rectangle-length}
 use Rattle.writing.specs.Bytes.{sheetSize, findingSize}
 use Rattle.printing.specs.Jobs.{jobText}
-use Rattle.printing.specs.Printing.{unprinted, printed, ifRoomy, unlessTrouble, printing, unprintedIfBad, printingAnswer}
+use Rattle.printing.specs.Printing.{unprinted, printed, ifFits, unlessTrouble, printing, unprintedIfBad, printingAnswer}
 use Rattle.printing.proofs.Lengths.{text-most}
 use Rattle.layouts.specs.Outcomes.{distanceSize, ifRoom, lentOutcome, layoutOutcome, roundOutcome, rectangleOutcome, layoutAnswer}
 use Rattle.handing.specs.Handing.{refused, reduced, handed, success, answerOf}
@@ -113,7 +113,7 @@ number-told s index = go (jobTrouble s) refl
     go Clear e = inside e _ refl
 
 text-told : (fig : Figure) (s : List ℕ) (room : ℕ) → Tellable (printingAnswer (printing fig s room))
-unfolding printing ifRoomy printingAnswer
+unfolding printing ifFits printingAnswer
 text-told fig s room = go (jobTrouble s) refl
   where
     by-room : (short : Bool) → Tellable (printingAnswer (cond short (unprinted 9 0) (printed (jobText fig s))))

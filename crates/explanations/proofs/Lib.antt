@@ -1,3 +1,5 @@
 -- The laws of an explanation written.
 pub mod Unused
 pub mod Shown
+pub mod Lengths
+pub mod Outcomes

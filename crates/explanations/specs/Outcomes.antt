@@ -1,9 +1,7 @@
 -- What comes of the call for one of a run's findings, explained: decided by the figure, by the job and by the length of the output, before
 -- a byte of it is written.
 use Prim.Native.Nat.{ℕ}
-use mathlib.Core.Bool.{cond}
 use mathlib.Core.List.{List}
-use lib.Dec.{ltb}
 use lib.ListN.{length}
 use Rattle.fields.specs.declared.trouble.Trouble.{Trouble}
 use Rattle.fields.specs.declared.trouble.Trouble.the-variants.{Clear, At}
@@ -16,20 +14,15 @@ use Rattle.reduction.specs.declared.Which.{Which}
 use Rattle.reduction.specs.declared.Which.the-variants.{Index, NoRun}
 use Rattle.reduction.specs.Reducing.{runNamed}
 use Rattle.output.specs.declared.Answer.{Answer}
-use Rattle.output.specs.Answers.{shortOutput, unknownRun, unknownFinding}
-use Rattle.printing.specs.Printing.{Printing, unprinted, printed, unprintedIfBad, Printed}
-use Rattle.explaining.specs.declared.Explanation.{Explanation}
+use Rattle.output.specs.Answers.{unknownRun, unknownFinding}
+use Rattle.printing.specs.Printing.{Printing, unprinted, ifFits, unprintedIfBad, Printed}
 use Rattle.explaining.specs.declared.Explained.{Explained}
 use Rattle.explaining.specs.declared.Explained.the-variants.{NoFinding, Because}
 use Rattle.explaining.specs.Explaining.{explainedRun}
 use Rattle.explanations.specs.declared.Form.{Form}
 use Rattle.explanations.specs.Written.{written}
 
--- 9: the output is shorter than the explanation
-unfoldable pub ifFits : List ℕ → ℕ → Printing
-ifFits text room = cond (ltb room (length text)) (unprinted shortOutput 0) (printed text)
-
--- 15: the run does not have that finding
+-- 15: the run does not have that finding; 9: the output is shorter than its explanation
 unfoldable pub ofExplained : Form → Explained → ℕ → Printing
 ofExplained form NoFinding room = unprinted unknownFinding 0
 ofExplained form (Because e) room = ifFits (written form e) room
@@ -58,7 +51,3 @@ Explains form fig s run rule place old new a = Printed (explaining form fig s ru
 
 abbrev pub ExplainsBy : Form → Supplied → List ℕ → ℕ → ℕ → ℕ → List ℕ → List ℕ → Answer → Type 0
 ExplainsBy form f s run rule place old new a = Printed (explainingBy form f s run rule place (length old)) old new a
-
--- an explanation handed over
-abbrev pub HandsOver : Form → Explanation → List ℕ → List ℕ → Answer → Type 0
-HandsOver form e old new a = Printed (ifFits (written form e) (length old)) old new a

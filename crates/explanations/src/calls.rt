@@ -12,7 +12,9 @@ use reduction::Which;
 use reduction::find_run;
 use steps::Figure;
 ghost use Rattle.figures.specs.Figures.{readFigure};
-ghost use Rattle.explanations.specs.Outcomes.{Explains, ExplainsBy, HandsOver};
+ghost use Rattle.printing.specs.Printing.{HandsOver};
+ghost use Rattle.explanations.specs.Written.{written};
+ghost use Rattle.explanations.specs.Outcomes.{Explains, ExplainsBy};
 
 // Room for any explanation, as bytes or as text.
 const ROOM: usize = 1024;
@@ -20,7 +22,7 @@ const ROOM: usize = 1024;
 // Hands an explanation over, by way of a buffer with room for any: how long it is shows only once it is written, and an output that
 // turns out too short stays as it was.
 fn hand_over(form: Form, e: Explanation, out: &mut [u8]) -> Answer
-    ensures { λ r. ⌜ HandsOver form e (now (out .entry)) (now (out .exit)) r ⌝ }
+    ensures { λ r. ⌜ HandsOver (written form e) (now (out .entry)) (now (out .exit)) r ⌝ }
 {
     let mut way = [0u8; ROOM];
     let end = put_explanation(form, &mut way, e);

@@ -16,7 +16,7 @@ use Rattle.output.specs.declared.Answer.the-variants.{Done, Refused}
 use Rattle.characters.specs.Writing.{Wrote}
 use Rattle.characters.proofs.Texts.{written-end, written-front}
 use Rattle.printing.specs.Jobs.{runsText, jobText}
-use Rattle.printing.specs.Printing.{ifRoomy, printing, printingAnswer, printingOut, PrintsClear, Prints, PrintsBy}
+use Rattle.printing.specs.Printing.{ifFits, printing, printingAnswer, printingOut, HandsOver, Prints, PrintsBy}
 use Rattle.printing.proofs.Lengths.{text-most}
 
 -- the text of a job without trouble is that of its runs
@@ -32,16 +32,17 @@ pub refused-by-reader : (fig : Figure) (s : List ℕ) {j : Job} {n p : ℕ} (old
 unfolding printing printingAnswer printingOut
 refused-by-reader fig s old e t = rw (read-refused s e t) (record { answer = refl; out = refl })
 
-pub refused-short : (fig : Figure) (s : List ℕ) (old : List ℕ) {end : ℕ} → end ≡ length (jobText fig s) → length old < end → PrintsClear fig s old old (Refused 9 0)
-unfolding ifRoomy printingAnswer printingOut
-refused-short fig s old e short = rw (lt-ltb (length old) (length (jobText fig s)) (rw e at short)) (record { answer = refl; out = refl })
+-- a text, where nothing is in trouble
+pub refused-short : (text old : List ℕ) {end : ℕ} → end ≡ length text → length old < end → HandsOver text old old (Refused 9 0)
+unfolding ifFits printingAnswer printingOut
+refused-short text old e short = rw (lt-ltb (length old) (length text) (rw e at short)) (record { answer = refl; out = refl })
 
-pub handed-over : (fig : Figure) (s : List ℕ) (old : List ℕ) {out : List ℕ} {end : ℕ} → length (jobText fig s) ≤ length old → Wrote old 0 (jobText fig s) out end → PrintsClear fig s old out (Done end)
-unfolding ifRoomy printingAnswer printingOut
-handed-over fig s old room w =
-    rw (le-ltb (length old) (length (jobText fig s)) room) (record { answer = ap Done (written-end w); out = w .is })
+pub handed-over : (text old : List ℕ) {out : List ℕ} {end : ℕ} → length text ≤ length old → Wrote old 0 text out end → HandsOver text old out (Done end)
+unfolding ifFits printingAnswer printingOut
+handed-over text old room w =
+    rw (le-ltb (length old) (length text) room) (record { answer = ap Done (written-end w); out = w .is })
 
-pub of-clear : (fig : Figure) (s : List ℕ) (j : Job) {old out : List ℕ} {a : Answer} → ClearJob s j → PrintsClear fig s old out a → Prints fig s old out a
+pub of-clear : (fig : Figure) (s : List ℕ) (j : Job) {old out : List ℕ} {a : Answer} → ClearJob s j → HandsOver (jobText fig s) old out a → Prints fig s old out a
 unfolding printing
 of-clear fig s j ok p = rw (ok .clear) p
 

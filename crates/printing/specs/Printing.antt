@@ -22,14 +22,14 @@ pub data Printing : Type 0 where
   unprinted : ℕ → ℕ → Printing
   printed : List ℕ → Printing
 
--- 9: the output is shorter than what the program prints of the job
-unfoldable pub ifRoomy : Figure → List ℕ → ℕ → Printing
-ifRoomy fig s room = cond (ltb room (length (jobText fig s))) (unprinted shortOutput 0) (printed (jobText fig s))
+-- 9: the output is shorter than the text
+unfoldable pub ifFits : List ℕ → ℕ → Printing
+ifFits text room = cond (ltb room (length text)) (unprinted shortOutput 0) (printed text)
 
 -- the reader's 1 to 8 come first
 abbrev pub unlessTrouble : Trouble → Figure → List ℕ → ℕ → Printing
 unlessTrouble (At number place) fig s room = unprinted number place
-unlessTrouble Clear fig s room = ifRoomy fig s room
+unlessTrouble Clear fig s room = ifFits (jobText fig s) room
 
 -- From a figure, the job's bytes and the output's length
 unfoldable pub printing : Figure → List ℕ → ℕ → Printing
@@ -59,10 +59,11 @@ pub record Printed (p : Printing) (old new : List ℕ) (a : Answer) : Type 0 whe
   pub answer : a ≡ printingAnswer p
   pub out : new ≡ printingOut p old
 
--- of a job without trouble, and of any
-abbrev pub PrintsClear : Figure → List ℕ → List ℕ → List ℕ → Answer → Type 0
-PrintsClear fig s old new a = Printed (ifRoomy fig s (length old)) old new a
+-- of a text, where nothing is in trouble
+abbrev pub HandsOver : List ℕ → List ℕ → List ℕ → Answer → Type 0
+HandsOver text old new a = Printed (ifFits text (length old)) old new a
 
+-- of a job by a figure
 abbrev pub Prints : Figure → List ℕ → List ℕ → List ℕ → Answer → Type 0
 Prints fig s old new a = Printed (printing fig s (length old)) old new a
 

@@ -9,13 +9,14 @@ use output::Answer;
 use steps::Figure;
 ghost use Rattle.figures.specs.Figures.{readFigure};
 ghost use Rattle.job.specs.Reading.{ClearJob};
-ghost use Rattle.printing.specs.Printing.{PrintsClear, Prints, PrintsBy};
+ghost use Rattle.printing.specs.Jobs.{jobText};
+ghost use Rattle.printing.specs.Printing.{HandsOver, Prints, PrintsBy};
 
 // The text of a job without trouble, by way of a buffer with room for any: how long it is shows only once it is
 // written, and an output that turns out too short stays as it was.
 fn put_by_way(figure: Figure, s: &[u8], job: Job, out: &mut [u8]) -> Answer
     requires { ⌜ ClearJob (now s) job ⌝ }
-    ensures { λ r. ⌜ PrintsClear figure (now (s .entry)) (now (out .entry)) (now (out .exit)) r ⌝ }
+    ensures { λ r. ⌜ HandsOver (jobText figure (now (s .entry))) (now (out .entry)) (now (out .exit)) r ⌝ }
 {
     let mut way = [0u8; ROOM];
     let end = put_runs(figure, s, job, &mut way);

@@ -27,15 +27,10 @@ use Rattle.findings.proofs.Members.{listed-exactly}
 use Rattle.findings.proofs.Most.{at-most-for}
 use Rattle.reduction.specs.Reducing.{worked}
 use Rattle.characters.specs.Numbers.{decimal}
-use Rattle.characters.proofs.Decimals.{decimal-digits, signed-short}
-use Rattle.characters.proofs.Texts.{joined-short}
+use Rattle.characters.proofs.Decimals.{decimal-short, decimal-digits, signed-short}
+use Rattle.characters.proofs.Texts.{either-short, joined-short}
 use Rattle.text.specs.Sheets.{space, newline, valueText, lineText, lineAt, sheetText}
 use Rattle.text.specs.Runs.{className, findingText, findingsText, standing, runWord, runText}
-
--- of two texts, whichever it is
-either-short : (test : Bool) (a b : List ℕ) (n : ℕ) → length a ≤ n → length b ≤ n → length (cond test a b) ≤ n
-either-short true a b n h k = h
-either-short false a b n h k = k
 
 -- A sheet
 
@@ -72,6 +67,17 @@ finding-short f rule place =
     let three = length-append (class ++ decimal (f .rule) ++ space) (decimal (f .place)) in
     let four = length-append (class ++ decimal (f .rule) ++ space ++ decimal (f .place)) newline in
     omega (arith, one, two, three, four, class-short (f .class), decimal-digits 1 (f .rule) rule, decimal-digits 1 (f .place) place)
+
+-- whatever its numbers are
+pub any-finding-short : (f : Finding) → length (findingText f) ≤ 48
+unfolding findingText
+any-finding-short f =
+    let class = className (f .class) in
+    let one = length-append class (decimal (f .rule)) in
+    let two = length-append (class ++ decimal (f .rule)) space in
+    let three = length-append (class ++ decimal (f .rule) ++ space) (decimal (f .place)) in
+    let four = length-append (class ++ decimal (f .rule) ++ space ++ decimal (f .place)) newline in
+    omega (arith, one, two, three, four, class-short (f .class), decimal-short (f .rule), decimal-short (f .place))
 
 -- a number that is one of two is at most what both are
 either-most : (test : Bool) (a b n : ℕ) → a ≤ n → b ≤ n → cond test a b ≤ n

@@ -1,2 +1,3 @@
 -- The law of the table.
 pub mod Silent
+pub mod Lengths

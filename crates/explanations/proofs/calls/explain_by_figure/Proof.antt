@@ -1,41 +1,34 @@
+-- The figure's trouble comes before the job is read; without one, the call by a figure's steps.
+use native.Mathlib.Omega.{arith}
+use Rattle.figures.proofs.Clear.{fourteen-fits}
+use Rattle.explanations.proofs.Outcomes.{refused-by-figure, by-good-figure}
 use borrow.Author.Needs.{needs}
 use Rattle.explanations.proofs.calls.explain_by_figure.Statement.{statement}
 use Rattle.explanations.proofs.calls.explain_by_figure.Tie as tie
-use Rattle.explanations.proofs.calls.explain_by_figure.Reads as reads
-use Rattle.explanations.proofs.calls.explain_by_figure.Lts as lts
-use Rattle.explanations.proofs.calls.explain.Reads as explain-reads
-use Rattle.figures.proofs.read.Reads as read-reads
 
--- src/calls.rt:74:9
 read-requires : tie.Need-read-requires
 read-requires c κs = search needs
 
--- src/calls.rt:76:24
 enum-known-trouble : tie.Need-enum-known-trouble
 enum-known-trouble c = search needs
 
--- src/calls.rt:77:40
 cast-t12 : tie.Need-cast-t12
-cast-t12 c = ?
+cast-t12 c = omega (arith, fourteen-fits _ (c .before .before .before .read .ensures) (c .before .trouble .given .1))
 
--- src/calls.rt:77:9
 returns : tie.Need-returns
-returns c = ?
+returns c = refused-by-figure _ _ _ _ _ _ _ (c .before .before .before .read .ensures) (c .before .trouble .given .1)
 
 enum-told : tie.Need-enum-told
 enum-told c = search needs
 
--- src/calls.rt:79:5
 explain-requires : tie.Need-explain-requires
 explain-requires c κs = search needs
 
--- src/calls.rt:63:1
 same-length : tie.Need-same-length
 same-length c = search needs
 
--- src/calls.rt:63:1
 returns-2 : tie.Need-returns-2
-returns-2 c = ?
+returns-2 c = by-good-figure _ _ _ _ _ _ _ (c .before .before .before .before .before .before .read .ensures) (c .before .before .before .before .enum-told .given .1) (c .before .before .explain .ensures)
 
 pub explain-by-figure-spec : {M : Type 1} → statement M
 explain-by-figure-spec =

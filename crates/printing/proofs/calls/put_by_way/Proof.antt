@@ -25,7 +25,7 @@ text c =
     beside (rw (text-of-runs _ _ _ (start .pre)) at (c .before .put-runs .ensures)) (omega (arith, size, text-most (start .args .figure) (start .args .s .now)))
 
 returns : tie.Need-returns
-returns c = refused-short _ _ _ (text (c .before) .whole) (omega (arith, c .if1 .taken))
+returns c = refused-short _ _ (text (c .before) .whole) (omega (arith, c .if1 .taken))
 
 array-share-prefix-way : tie.Need-array-share-prefix-way
 array-share-prefix-way c = text (c .before .before) .inside
@@ -50,7 +50,7 @@ returns-2 : tie.Need-returns-2
 returns-2 c =
     let beside = text (c .before .before .before .before .before .before) in
     let copied = rw (beside .front) at (c .before .before .put-word .ensures) in
-    rw (beside .whole ∙ sym (written-end copied)) (handed-over _ _ _ (omega (arith, beside .whole, c .before .before .before .before .before .if1 .left)) copied)
+    rw (beside .whole ∙ sym (written-end copied)) (handed-over _ _ (omega (arith, beside .whole, c .before .before .before .before .before .if1 .left)) copied)
 
 pub put-by-way-spec : {M : Type 1} → statement M
 put-by-way-spec =

@@ -51,7 +51,7 @@ returns-3 : tie.Need-returns-3
 returns-3 c =
     let job = read-clear _ (c .before .before .before .before .before .before .before .read .ensures) (c .before .before .before .before .before .enum-told .given .1) in
     let start = c .before .before .before .before .before .before .before .before .before .before in
-    of-clear _ _ _ job (handed-over _ _ _ (omega (arith, text-most (start .args .figure) (start .args .s .now), c .before .before .before .before .if1 .left)) (wrote c))
+    of-clear _ _ _ job (handed-over _ _ (omega (arith, text-most (start .args .figure) (start .args .s .now), c .before .before .before .before .if1 .left)) (wrote c))
 
 pub sheet-text-spec : {M : Type 1} → statement M
 sheet-text-spec =
