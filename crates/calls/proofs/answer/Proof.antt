@@ -1,7 +1,7 @@
 -- `answer` is what the public call of the header's number promises: the call takes the header's numbers, and a buffer that it is not lent stays as it was.
 use mathlib.Core.Path.{refl}
 use borrow.Author.Needs.{needs}
-use Rattle.calls.specs.Requests.{byReduce, byRunCount, byRunNumber, byRoundLayout, byRectLayout, bySheetText, byReduceByFigure, bySheetTextByFigure, byNone}
+use Rattle.calls.specs.Requests.{byReduce, byRunCount, byRunNumber, byRoundLayout, byRectLayout, bySheetText, byReduceByFigure, bySheetTextByFigure, byExplain, byExplainByFigure, byExplainText, byExplainTextByFigure, byNone}
 use Rattle.calls.proofs.NoCall.{no-call}
 use Rattle.calls.proofs.answer.Statement.{statement}
 use Rattle.calls.proofs.answer.Tie as tie
@@ -41,6 +41,18 @@ leverbonnet-reduce-by-figure-requires c κs = tt
 
 leverbonnet-sheet-text-by-figure-requires : tie.Need-leverbonnet-sheet-text-by-figure-requires
 leverbonnet-sheet-text-by-figure-requires c κs = tt
+
+leverbonnet-explain-requires : tie.Need-leverbonnet-explain-requires
+leverbonnet-explain-requires c κs = tt
+
+leverbonnet-explain-by-figure-requires : tie.Need-leverbonnet-explain-by-figure-requires
+leverbonnet-explain-by-figure-requires c κs = tt
+
+leverbonnet-explain-text-requires : tie.Need-leverbonnet-explain-text-requires
+leverbonnet-explain-text-requires c κs = tt
+
+leverbonnet-explain-text-by-figure-requires : tie.Need-leverbonnet-explain-text-by-figure-requires
+leverbonnet-explain-text-by-figure-requires c κs = tt
 
 same-length : tie.Need-same-length
 same-length c = search needs
@@ -117,8 +129,56 @@ returns-8 c =
     let called = c .before .before in
     bySheetTextByFigure (called .before .before .match .keys8) (called .leverbonnet-sheet-text-by-figure .ensures) refl
 
+same-length-9 : tie.Need-same-length-9
+same-length-9 c = search needs
+
 returns-9 : tie.Need-returns-9
-returns-9 c = byNone (no-call 8 _ (c .match .rest)) refl refl refl
+returns-9 c =
+    let called = c .before .before in
+    let chosen = called .before .before in
+    let third = chosen .before .before in
+    let second = third .before .before in
+    let first = second .before .before in
+    byExplain (chosen .match .keys9) (rw (first .u16-at .ensures, second .u16-at2 .ensures, third .u16-at3 .ensures) at (called .leverbonnet-explain .ensures)) refl
+
+same-length-10 : tie.Need-same-length-10
+same-length-10 c = search needs
+
+returns-10 : tie.Need-returns-10
+returns-10 c =
+    let called = c .before .before in
+    let chosen = called .before .before in
+    let third = chosen .before .before in
+    let second = third .before .before in
+    let first = second .before .before in
+    byExplainByFigure (chosen .match .keys10) (rw (first .u16-at .ensures, second .u16-at2 .ensures, third .u16-at3 .ensures) at (called .leverbonnet-explain-by-figure .ensures)) refl
+
+same-length-11 : tie.Need-same-length-11
+same-length-11 c = search needs
+
+returns-11 : tie.Need-returns-11
+returns-11 c =
+    let called = c .before .before in
+    let chosen = called .before .before in
+    let third = chosen .before .before in
+    let second = third .before .before in
+    let first = second .before .before in
+    byExplainText (chosen .match .keys11) (rw (first .u16-at .ensures, second .u16-at2 .ensures, third .u16-at3 .ensures) at (called .leverbonnet-explain-text .ensures)) refl
+
+same-length-12 : tie.Need-same-length-12
+same-length-12 c = search needs
+
+returns-12 : tie.Need-returns-12
+returns-12 c =
+    let called = c .before .before in
+    let chosen = called .before .before in
+    let third = chosen .before .before in
+    let second = third .before .before in
+    let first = second .before .before in
+    byExplainTextByFigure (chosen .match .keys12) (rw (first .u16-at .ensures, second .u16-at2 .ensures, third .u16-at3 .ensures) at (called .leverbonnet-explain-text-by-figure .ensures)) refl
+
+returns-13 : tie.Need-returns-13
+returns-13 c = byNone (no-call 12 _ (c .match .rest)) refl refl refl
 
 pub answer-spec : {M : Type 1} → statement M
 answer-spec =
@@ -136,6 +196,10 @@ answer-spec =
     leverbonnet-sheet-text-requires
     leverbonnet-reduce-by-figure-requires
     leverbonnet-sheet-text-by-figure-requires
+    leverbonnet-explain-requires
+    leverbonnet-explain-by-figure-requires
+    leverbonnet-explain-text-requires
+    leverbonnet-explain-text-by-figure-requires
     same-length
     same-length-2
     returns
@@ -152,4 +216,12 @@ answer-spec =
     returns-7
     same-length-8
     returns-8
-    returns-9)
+    same-length-9
+    returns-9
+    same-length-10
+    returns-10
+    same-length-11
+    returns-11
+    same-length-12
+    returns-12
+    returns-13)
