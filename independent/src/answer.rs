@@ -15,6 +15,7 @@ pub enum Reason {
     NoSuchRun = 10,
     LayoutOutOfRange = 11,
     Figure = 14,
+    NoSuchFinding = 15,
 }
 
 /// A reason and the byte of the job, or of the figure, that it is about (0 when it is
@@ -37,6 +38,14 @@ impl Refusal {
     pub fn number(self) -> u32 {
         self.reason as u32
     }
+}
+
+/// Writes all of it and answers how long it is; nothing when the output is too short.
+pub fn written(bytes: &[u8], out: &mut [u8]) -> Result<u32, Refusal> {
+    let too_short = Refusal::new(Reason::OutputTooShort, 0);
+    let front = out.get_mut(..bytes.len()).ok_or(too_short)?;
+    front.copy_from_slice(bytes);
+    Ok(bytes.len() as u32)
 }
 
 /// Both kinds of result as one word, the refusal's number in the high half.

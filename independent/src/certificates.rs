@@ -1,6 +1,15 @@
 //! Choosing the certificates that count for a run.
 
-use crate::job::{Certificate, Instrument, Kind, Run, Version};
+use crate::condition::Condition;
+use crate::job::{Certificate, Kind, Run, Version};
+
+/// Of a run's day: on it or earlier, or later. The discriminants are the numbers of the
+/// sides.
+#[derive(Clone, Copy, Debug, PartialEq, Eq)]
+pub enum Side {
+    Before = 1,
+    After = 2,
+}
 
 /// A run's certificates; `None` where the job holds none so dated.
 pub struct Chosen<'a> {
@@ -12,24 +21,31 @@ pub struct Chosen<'a> {
 
 impl<'a> Chosen<'a> {
     pub fn for_run(run: &Run, certificates: &'a [Certificate]) -> Self {
+        let nearest = |kind, side| nearest(run, certificates, kind, side);
         Chosen {
-            meter_before: before(certificates, Kind::Meter, run.meter, run.day),
-            meter_after: after(certificates, Kind::Meter, run.meter, run.day),
-            pitot: before(certificates, Kind::Pitot, run.pitot, run.day),
-            nozzle: before(certificates, Kind::Nozzle, run.nozzle, run.day),
+            meter_before: nearest(Kind::Meter, Side::Before),
+            meter_after: nearest(Kind::Meter, Side::After),
+            pitot: nearest(Kind::Pitot, Side::Before),
+            nozzle: nearest(Kind::Nozzle, Side::Before),
         }
     }
 
-    /// Whether both meter certificates are there and the after factor lies
-    /// more than 5 percent of the before factor away from it.
+    /// Broken where the after factor lies more than 5 percent of the before factor away
+    /// from it; none where one of the two is not known.
+    pub fn factors_apart(&self) -> Option<Condition> {
+        let [before, after] =
+            [self.meter_before?, self.meter_after?].map(|one| i64::from(one.values[0]));
+        Some(Condition::above(
+            20 * (before - after).abs(),
+            before,
+            "20 x the difference of the meter's factors; \
+             its factor before the run (factors in 0.0001)",
+        ))
+    }
+
     pub fn factor_moved(&self) -> bool {
-        match (self.meter_before, self.meter_after) {
-            (Some(before), Some(after)) => {
-                let difference = before.values[0].abs_diff(after.values[0]);
-                u32::from(difference) * 100 > u32::from(before.values[0]) * 5
-            }
-            _ => false,
-        }
+        self.factors_apart()
+            .map_or(false, |apart| apart.is_broken())
     }
 
     /// Y in 1/10,000, known whenever the before certificate is there. In version 1
@@ -53,38 +69,26 @@ impl<'a> Chosen<'a> {
     }
 }
 
-/// The latest dated on or before the day.
-fn before(
-    certificates: &[Certificate],
+/// The certificate of the run's instrument of that kind that is dated nearest its day on
+/// that side.
+pub fn nearest<'a>(
+    run: &Run,
+    certificates: &'a [Certificate],
     kind: Kind,
-    instrument: Instrument,
-    day: u16,
-) -> Option<&Certificate> {
-    of(certificates, kind, instrument)
-        .filter(|certificate| certificate.day <= day)
-        .max_by_key(|certificate| certificate.day)
-}
-
-/// The earliest dated later than the day.
-fn after(
-    certificates: &[Certificate],
-    kind: Kind,
-    instrument: Instrument,
-    day: u16,
-) -> Option<&Certificate> {
-    of(certificates, kind, instrument)
-        .filter(|certificate| certificate.day > day)
-        .min_by_key(|certificate| certificate.day)
-}
-
-fn of(
-    certificates: &[Certificate],
-    kind: Kind,
-    instrument: Instrument,
-) -> impl Iterator<Item = &Certificate> {
-    certificates
+    side: Side,
+) -> Option<&'a Certificate> {
+    let instrument = run.instrument(kind);
+    let belonging = certificates
         .iter()
-        .filter(move |certificate| certificate.kind == kind && certificate.instrument == instrument)
+        .filter(|certificate| certificate.kind == kind && certificate.instrument == instrument);
+    match side {
+        Side::Before => belonging
+            .filter(|certificate| certificate.day <= run.day)
+            .max_by_key(|certificate| certificate.day),
+        Side::After => belonging
+            .filter(|certificate| certificate.day > run.day)
+            .min_by_key(|certificate| certificate.day),
+    }
 }
 
 #[cfg(test)]

@@ -35,12 +35,20 @@ impl Diameter {
         }
     }
 
+    /// The diameter and so many tenths of an inch, as whole numbers that stand to each
+    /// other as they do.
+    pub fn beside(self, tenths: u16) -> (u64, u64) {
+        (self.numerator, u64::from(tenths) * self.denominator)
+    }
+
     pub fn is_below(self, tenths: u16) -> bool {
-        self.numerator < u64::from(tenths) * self.denominator
+        let (diameter, tenths) = self.beside(tenths);
+        diameter < tenths
     }
 
     pub fn is_above(self, tenths: u16) -> bool {
-        self.numerator > u64::from(tenths) * self.denominator
+        let (diameter, tenths) = self.beside(tenths);
+        diameter > tenths
     }
 
     /// Whether a disturbance at the distance (0.1 in) is nearer than so many

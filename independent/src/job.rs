@@ -227,6 +227,15 @@ impl Certificate {
 }
 
 impl Run {
+    /// The instrument of that kind that it was sampled with.
+    pub fn instrument(&self, kind: Kind) -> Instrument {
+        match kind {
+            Kind::Meter => self.meter,
+            Kind::Pitot => self.pitot,
+            Kind::Nozzle => self.nozzle,
+        }
+    }
+
     fn append_to(&self, bytes: &mut Vec<u8>, version: Version) {
         bytes.extend(self.number.to_le_bytes());
         bytes.extend(self.day.to_le_bytes());

@@ -1,4 +1,4 @@
-//! The independent program: the same eight calls and the same printed sheet as
+//! The independent program: the same twelve calls and the same printed sheet as
 //! the proved library, written from the rules alone. It shares nothing with the
 //! library, so that where the two agree neither can be repeating the other's slip.
 //!
@@ -10,8 +10,11 @@
 
 mod answer;
 mod arithmetic;
+mod certificate_days;
 mod certificates;
+mod condition;
 mod diameter;
+mod explanation;
 pub mod figure;
 mod findings;
 pub mod job;
@@ -21,6 +24,7 @@ mod lines;
 mod points;
 mod print;
 mod read;
+mod rules;
 pub mod samples;
 mod worked;
 
@@ -35,7 +39,9 @@ pub use print::{sheet, sheet_by_figure};
 pub use read::read;
 pub use worked::{work, Worked};
 
-use answer::answered;
+use answer::{answered, written};
+use explanation::Explanation;
+use job::{Job, Run};
 use read::read_both;
 
 /// What `reduce` adds to the number of findings when the run is accepted.
@@ -67,15 +73,68 @@ fn reduced(
     findings: &mut [u8],
 ) -> Result<u32, Refusal> {
     let (figure, job) = read_both(figure, job)?;
-    let run = job
-        .runs
-        .iter()
-        .find(|run| run.number == run_number)
-        .ok_or(Refusal::new(Reason::NoSuchRun, 0))?;
-    let worked = work(figure.as_ref(), &job, run);
+    let worked = work(figure.as_ref(), &job, run_of(&job, run_number)?);
     worked.write(lines, findings)?;
     let accepted = if worked.accepted() { ACCEPTED } else { 0 };
     Ok(worked.findings.len() as u32 + accepted)
+}
+
+fn run_of(job: &Job, run_number: u16) -> Result<&Run, Refusal> {
+    let mut runs = job.runs.iter();
+    runs.find(|run| run.number == run_number)
+        .ok_or(Refusal::new(Reason::NoSuchRun, 0))
+}
+
+/// Writes why the run of that number has the finding of that rule at that place, as
+/// bytes. Succeeds with their number.
+pub fn explain(job: &[u8], run_number: u16, rule: u16, place: u16, out: &mut [u8]) -> u64 {
+    let explanation = explained(None, job, run_number, rule, place);
+    answered(explanation.and_then(|explanation| written(&explanation.bytes(), out)))
+}
+
+/// The same by a figure, which is read before the job and may be refused with 14.
+pub fn explain_by_figure(
+    figure: &[u8],
+    job: &[u8],
+    run_number: u16,
+    rule: u16,
+    place: u16,
+    out: &mut [u8],
+) -> u64 {
+    let explanation = explained(Some(figure), job, run_number, rule, place);
+    answered(explanation.and_then(|explanation| written(&explanation.bytes(), out)))
+}
+
+/// Writes it as text. Succeeds with the number of characters written.
+pub fn explain_text(job: &[u8], run_number: u16, rule: u16, place: u16, out: &mut [u8]) -> u64 {
+    let explanation = explained(None, job, run_number, rule, place);
+    answered(explanation.and_then(|explanation| written(explanation.text().as_bytes(), out)))
+}
+
+/// The same by a figure, which is read before the job and may be refused with 14.
+pub fn explain_text_by_figure(
+    figure: &[u8],
+    job: &[u8],
+    run_number: u16,
+    rule: u16,
+    place: u16,
+    out: &mut [u8],
+) -> u64 {
+    let explanation = explained(Some(figure), job, run_number, rule, place);
+    answered(explanation.and_then(|explanation| written(explanation.text().as_bytes(), out)))
+}
+
+fn explained(
+    figure: Option<&[u8]>,
+    job: &[u8],
+    run_number: u16,
+    rule: u16,
+    place: u16,
+) -> Result<Explanation, Refusal> {
+    let (figure, job) = read_both(figure, job)?;
+    let run = run_of(&job, run_number)?;
+    Explanation::of(figure.as_ref(), &job, run, rule, place)
+        .ok_or(Refusal::new(Reason::NoSuchFinding, 0))
 }
 
 /// Succeeds with the number of runs in the job.

@@ -1,4 +1,4 @@
-//! Rule 9: the numbers of points that a shape allows, and the least that a run needs.
+//! The numbers of points that a shape allows, and the least that a run needs.
 
 use crate::diameter::{Diameter, GREATEST_SMALL_DIAMETER};
 use crate::figure::Figure;
@@ -9,16 +9,22 @@ use crate::layout::grid;
 pub const UNDISTURBED_FROM_LAST: u16 = 800;
 pub const UNDISTURBED_TO_NEXT: u16 = 200;
 
-/// Whether the run's number of points is allowed, and enough.
-pub fn suffice(run: &Run, figure: Option<&Figure>) -> bool {
-    let points = run.points.len() as u16;
-    is_allowed(run.shape, points) && points >= least_points(run, figure)
-}
+/// The most that a rectangle has.
+const LARGEST_GRID: u16 = 49;
 
 pub fn is_allowed(shape: Shape, points: u16) -> bool {
+    points == next_allowed(shape, points)
+}
+
+/// The first allowed number from so many on. A rectangle has none past its largest
+/// grid, which then stands for it.
+pub fn next_allowed(shape: Shape, points: u16) -> u16 {
     match shape {
-        Shape::Round => points % 4 == 0,
-        Shape::Rectangular => grid(points).is_some(),
+        Shape::Round => (points + 3) / 4 * 4,
+        Shape::Rectangular => {
+            let mut grids = (points..LARGEST_GRID).filter(|&points| grid(points).is_some());
+            grids.next().unwrap_or(LARGEST_GRID)
+        }
     }
 }
 
@@ -30,7 +36,7 @@ pub fn least_points(run: &Run, figure: Option<&Figure>) -> u16 {
         (true, _, _) if large => 12,
         (true, _, Shape::Round) => 8,
         (true, _, Shape::Rectangular) => 9,
-        (false, Some(figure), shape) => next_allowed(shape, figure.asked(run)),
+        (false, Some(figure), shape) => next_allowed(shape, figure.asked(run).into()),
         (false, None, Shape::Round) => 24,
         (false, None, Shape::Rectangular) => 25,
     }
@@ -40,11 +46,4 @@ pub fn is_undisturbed(run: &Run) -> bool {
     let diameter = Diameter::of(run);
     !diameter.nearer_than(run.from_last_disturbance, UNDISTURBED_FROM_LAST)
         && !diameter.nearer_than(run.to_next_disturbance, UNDISTURBED_TO_NEXT)
-}
-
-/// A figure asks for no more than the shape has an allowed number for.
-fn next_allowed(shape: Shape, asked: u8) -> u16 {
-    let mut enough = u16::from(asked)..;
-    let allowed = enough.find(|&points| is_allowed(shape, points));
-    allowed.expect("a figure asks for 48 or 49 at most")
 }

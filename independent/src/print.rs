@@ -1,6 +1,6 @@
 //! The printed sheet of a whole job.
 
-use crate::answer::{Reason, Refusal};
+use crate::answer::{written, Refusal};
 use crate::findings::{Class, Finding};
 use crate::read::read_both;
 use crate::worked::{work, Worked};
@@ -26,12 +26,7 @@ fn printed(figure: Option<&[u8]>, job: &[u8]) -> Vec<u8> {
 /// Writes the text of all runs and answers how many characters it has; none when
 /// the output is too short for all of them.
 pub fn write(figure: Option<&[u8]>, job: &[u8], out: &mut [u8]) -> Result<u32, Refusal> {
-    let text = runs(figure, job)?;
-    match out.get_mut(..text.len()) {
-        Some(front) => front.copy_from_slice(text.as_bytes()),
-        None => return Err(Refusal::new(Reason::OutputTooShort, 0)),
-    }
-    Ok(text.len() as u32)
+    written(runs(figure, job)?.as_bytes(), out)
 }
 
 fn runs(figure: Option<&[u8]>, job: &[u8]) -> Result<String, Refusal> {
@@ -65,7 +60,7 @@ fn line_text(number: u32, line: Option<i64>) -> String {
     }
 }
 
-fn finding_text(finding: Finding) -> String {
+pub fn finding_text(finding: Finding) -> String {
     let class = match finding.class {
         Class::Fault => "FAULT",
         Class::Note => "NOTE",
