@@ -77,7 +77,8 @@ pub use error::Error;
 pub use finding::{Class, Finding};
 pub use line::Line;
 pub use outputs::{
-    FINDING_LENGTH, LINES_LENGTH, LINE_COUNT, LINE_LENGTH, MOST_FINDINGS, MOST_TEXT,
+    FINDING_LENGTH, LINES_LENGTH, LINE_COUNT, LINE_LENGTH, MOST_EXPLANATION, MOST_EXPLANATION_TEXT,
+    MOST_FINDINGS, MOST_TEXT,
 };
 pub use reduced::Reduced;
 pub use refusal::Refusal;

@@ -1,4 +1,4 @@
-//! The eight calls of the archive linked into this program, over slices. Each
+//! The twelve calls of the archive linked into this program, over slices. Each
 //! answers the library's own word, as [the package](crate) says.
 
 mod library {
@@ -57,6 +57,50 @@ mod library {
             figure_len: usize,
             job: *const u8,
             job_len: usize,
+            out: *mut u8,
+            out_len: usize,
+        ) -> u64;
+
+        pub fn leverbonnet_explain(
+            job: *const u8,
+            job_len: usize,
+            run: u16,
+            rule: u16,
+            place: u16,
+            out: *mut u8,
+            out_len: usize,
+        ) -> u64;
+
+        pub fn leverbonnet_explain_by_figure(
+            figure: *const u8,
+            figure_len: usize,
+            job: *const u8,
+            job_len: usize,
+            run: u16,
+            rule: u16,
+            place: u16,
+            out: *mut u8,
+            out_len: usize,
+        ) -> u64;
+
+        pub fn leverbonnet_explain_text(
+            job: *const u8,
+            job_len: usize,
+            run: u16,
+            rule: u16,
+            place: u16,
+            out: *mut u8,
+            out_len: usize,
+        ) -> u64;
+
+        pub fn leverbonnet_explain_text_by_figure(
+            figure: *const u8,
+            figure_len: usize,
+            job: *const u8,
+            job_len: usize,
+            run: u16,
+            rule: u16,
+            place: u16,
             out: *mut u8,
             out_len: usize,
         ) -> u64;
@@ -158,6 +202,100 @@ pub fn sheet_text_by_figure(figure: &[u8], job: &[u8], out: &mut [u8]) -> u64 {
             figure.len(),
             job.as_ptr(),
             job.len(),
+            out.as_mut_ptr(),
+            out.len(),
+        )
+    }
+}
+
+/// Explains the finding of that rule at that place in the run of that number, as
+/// bytes. Succeeds with how many are written; refusal 15 if the run does not have
+/// the finding. [`MOST_EXPLANATION`](crate::MOST_EXPLANATION) bytes always suffice.
+pub fn explain(job: &[u8], run: u16, rule: u16, place: u16, out: &mut [u8]) -> u64 {
+    // SAFETY: each pointer comes with the length of the slice it heads, the
+    // borrows keep the slices alive and apart, and the library keeps no pointer.
+    unsafe {
+        library::leverbonnet_explain(
+            job.as_ptr(),
+            job.len(),
+            run,
+            rule,
+            place,
+            out.as_mut_ptr(),
+            out.len(),
+        )
+    }
+}
+
+/// As [`explain`], of the findings that the run has with the figure in place of the
+/// house rule's 24 and 25 points. A bad figure is refused before the job is read.
+pub fn explain_by_figure(
+    figure: &[u8],
+    job: &[u8],
+    run: u16,
+    rule: u16,
+    place: u16,
+    out: &mut [u8],
+) -> u64 {
+    // SAFETY: each pointer comes with the length of the slice it heads, the
+    // borrows keep the slices alive and apart from what is written, and the
+    // library keeps no pointer.
+    unsafe {
+        library::leverbonnet_explain_by_figure(
+            figure.as_ptr(),
+            figure.len(),
+            job.as_ptr(),
+            job.len(),
+            run,
+            rule,
+            place,
+            out.as_mut_ptr(),
+            out.len(),
+        )
+    }
+}
+
+/// As [`explain`], as text: the finding's line of the sheet, and what explains it
+/// under it. [`MOST_EXPLANATION_TEXT`](crate::MOST_EXPLANATION_TEXT) bytes always
+/// suffice.
+pub fn explain_text(job: &[u8], run: u16, rule: u16, place: u16, out: &mut [u8]) -> u64 {
+    // SAFETY: each pointer comes with the length of the slice it heads, the
+    // borrows keep the slices alive and apart, and the library keeps no pointer.
+    unsafe {
+        library::leverbonnet_explain_text(
+            job.as_ptr(),
+            job.len(),
+            run,
+            rule,
+            place,
+            out.as_mut_ptr(),
+            out.len(),
+        )
+    }
+}
+
+/// As [`explain_text`], of the findings that the run has with the figure in place of
+/// the house rule's 24 and 25 points. A bad figure is refused before the job is read.
+pub fn explain_text_by_figure(
+    figure: &[u8],
+    job: &[u8],
+    run: u16,
+    rule: u16,
+    place: u16,
+    out: &mut [u8],
+) -> u64 {
+    // SAFETY: each pointer comes with the length of the slice it heads, the
+    // borrows keep the slices alive and apart from what is written, and the
+    // library keeps no pointer.
+    unsafe {
+        library::leverbonnet_explain_text_by_figure(
+            figure.as_ptr(),
+            figure.len(),
+            job.as_ptr(),
+            job.len(),
+            run,
+            rule,
+            place,
             out.as_mut_ptr(),
             out.len(),
         )

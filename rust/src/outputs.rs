@@ -19,5 +19,9 @@ pub const MOST_RECTANGULAR: usize = 2 * 49;
 /// It is proved that no job's text has more characters.
 pub const MOST_TEXT: usize = 27_088;
 
+/// No finding's explanation has more bytes, and none has more characters as text.
+pub const MOST_EXPLANATION: usize = 70;
+pub const MOST_EXPLANATION_TEXT: usize = 1_024;
+
 /// What a successful `reduce` adds to its count when the run is accepted.
 pub const ACCEPTED: u32 = 65_536;

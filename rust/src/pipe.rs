@@ -1,6 +1,6 @@
 //! The same calls over a pipe to the program `calls`, which makes them.
 //!
-//! The eight functions here ask one program for the whole process, whose command
+//! The twelve functions here ask one program for the whole process, whose command
 //! line is in the variable LEVERBONNET_CALLS, its words one a line. It is started
 //! at the first call, and again at the next call after it was lost or [ended](end).
 //! Each function answers the library's own word, as [the package](crate) says, or
@@ -109,6 +109,76 @@ pub fn sheet_text(job: &[u8], out: &mut [u8]) -> Result<u64, String> {
 pub fn sheet_text_by_figure(figure: &[u8], job: &[u8], out: &mut [u8]) -> Result<u64, String> {
     let out_len = out.len();
     let call = Call::SheetTextByFigure { out_len };
+    shared::answer(call, Files { figure, job }, [out, &mut []])
+}
+
+/// Explains the finding of that rule at that place in the run of that number, as
+/// bytes. Succeeds with how many are written; refusal 15 if the run does not have
+/// the finding. [`MOST_EXPLANATION`](crate::MOST_EXPLANATION) bytes always suffice.
+pub fn explain(job: &[u8], run: u16, rule: u16, place: u16, out: &mut [u8]) -> Result<u64, String> {
+    let call = Call::Explain {
+        run,
+        rule,
+        place,
+        out_len: out.len(),
+    };
+    shared::answer(call, job_alone(job), [out, &mut []])
+}
+
+/// As [`explain`], of the findings that the run has with the figure in place of the
+/// house rule's 24 and 25 points. A bad figure is refused before the job is read.
+pub fn explain_by_figure(
+    figure: &[u8],
+    job: &[u8],
+    run: u16,
+    rule: u16,
+    place: u16,
+    out: &mut [u8],
+) -> Result<u64, String> {
+    let call = Call::ExplainByFigure {
+        run,
+        rule,
+        place,
+        out_len: out.len(),
+    };
+    shared::answer(call, Files { figure, job }, [out, &mut []])
+}
+
+/// As [`explain`], as text: the finding's line of the sheet, and what explains it
+/// under it. [`MOST_EXPLANATION_TEXT`](crate::MOST_EXPLANATION_TEXT) bytes always
+/// suffice.
+pub fn explain_text(
+    job: &[u8],
+    run: u16,
+    rule: u16,
+    place: u16,
+    out: &mut [u8],
+) -> Result<u64, String> {
+    let call = Call::ExplainText {
+        run,
+        rule,
+        place,
+        out_len: out.len(),
+    };
+    shared::answer(call, job_alone(job), [out, &mut []])
+}
+
+/// As [`explain_text`], of the findings that the run has with the figure in place of
+/// the house rule's 24 and 25 points. A bad figure is refused before the job is read.
+pub fn explain_text_by_figure(
+    figure: &[u8],
+    job: &[u8],
+    run: u16,
+    rule: u16,
+    place: u16,
+    out: &mut [u8],
+) -> Result<u64, String> {
+    let call = Call::ExplainTextByFigure {
+        run,
+        rule,
+        place,
+        out_len: out.len(),
+    };
     shared::answer(call, Files { figure, job }, [out, &mut []])
 }
 

@@ -36,6 +36,30 @@ pub enum Call {
     SheetTextByFigure {
         out_len: usize,
     },
+    Explain {
+        run: u16,
+        rule: u16,
+        place: u16,
+        out_len: usize,
+    },
+    ExplainByFigure {
+        run: u16,
+        rule: u16,
+        place: u16,
+        out_len: usize,
+    },
+    ExplainText {
+        run: u16,
+        rule: u16,
+        place: u16,
+        out_len: usize,
+    },
+    ExplainTextByFigure {
+        run: u16,
+        rule: u16,
+        place: u16,
+        out_len: usize,
+    },
 }
 
 impl Call {
@@ -56,7 +80,11 @@ impl Call {
             Call::RoundLayout { out_len, .. }
             | Call::RectLayout { out_len, .. }
             | Call::SheetText { out_len }
-            | Call::SheetTextByFigure { out_len } => vec![out_len],
+            | Call::SheetTextByFigure { out_len }
+            | Call::Explain { out_len, .. }
+            | Call::ExplainByFigure { out_len, .. }
+            | Call::ExplainText { out_len, .. }
+            | Call::ExplainTextByFigure { out_len, .. } => vec![out_len],
         }
     }
 
@@ -73,7 +101,11 @@ impl Call {
             Call::RoundLayout { .. }
             | Call::RectLayout { .. }
             | Call::SheetText { .. }
-            | Call::SheetTextByFigure { .. } => [value as usize, 0],
+            | Call::SheetTextByFigure { .. }
+            | Call::Explain { .. }
+            | Call::ExplainByFigure { .. }
+            | Call::ExplainText { .. }
+            | Call::ExplainTextByFigure { .. } => [value as usize, 0],
         }
     }
 }

@@ -4,11 +4,12 @@
 //! ```text
 //! 0   u8    1 reduce, 2 run count, 3 run number, 4 round layout,
 //!           5 rectangular layout, 6 sheet text, 7 reduce by figure,
-//!           8 sheet text by figure
+//!           8 sheet text by figure, 9 explain, 10 explain by figure,
+//!           11 explain text, 12 explain text by figure
 //! 1   u8    what every byte of the outputs holds before the call
 //! 2   u16   the run; the index; the points
-//! 4   u16   the diameter; the first side
-//! 6   u16   the nozzle; the second side
+//! 4   u16   the diameter; the first side; the rule
+//! 6   u16   the nozzle; the second side; the place
 //! 8   u16   the length of the lines, or of the only output
 //! 10  u16   the length of the findings, at most 4,096
 //! 12  u32   the length of the job, at most 65,536
@@ -78,6 +79,18 @@ impl Request {
             Call::SheetText { .. } => (6, [0; 3]),
             Call::ReduceByFigure { run, .. } => (7, [run, 0, 0]),
             Call::SheetTextByFigure { .. } => (8, [0; 3]),
+            Call::Explain {
+                run, rule, place, ..
+            } => (9, [run, rule, place]),
+            Call::ExplainByFigure {
+                run, rule, place, ..
+            } => (10, [run, rule, place]),
+            Call::ExplainText {
+                run, rule, place, ..
+            } => (11, [run, rule, place]),
+            Call::ExplainTextByFigure {
+                run, rule, place, ..
+            } => (12, [run, rule, place]),
         };
         let lengths = self.sent_lengths().map(|length| length as u16);
         let figure = cut(files.figure, MOST_FIGURE);
@@ -200,6 +213,45 @@ mod tests {
         let bytes = bytes_of(call, 0, BOTH);
         assert_eq!(bytes, [&header[..], b"FIG\x01SRJ"].concat());
         assert_eq!(reply_length_of(call), 8 + 27_088);
+    }
+
+    #[test]
+    fn explanations_as_bytes() {
+        let (run, rule, place, out_len) = (0x0201, 17, 0x0403, 1_024);
+        let calls = [
+            Call::Explain {
+                run,
+                rule,
+                place,
+                out_len,
+            },
+            Call::ExplainByFigure {
+                run,
+                rule,
+                place,
+                out_len,
+            },
+            Call::ExplainText {
+                run,
+                rule,
+                place,
+                out_len,
+            },
+            Call::ExplainTextByFigure {
+                run,
+                rule,
+                place,
+                out_len,
+            },
+        ];
+        for (number, call) in (9..).zip(calls) {
+            let header = [
+                number, 0x5A, 1, 2, 17, 0, 3, 4, 0, 4, 0, 0, 3, 0, 0, 0, 4, 0,
+            ];
+            let bytes = bytes_of(call, 0x5A, BOTH);
+            assert_eq!(bytes, [&header[..], b"FIG\x01SRJ"].concat());
+            assert_eq!(reply_length_of(call), 8 + 1_024);
+        }
     }
 
     #[test]
