@@ -5,7 +5,9 @@
 //! | [`run_numbers`] | the numbers of a job's runs |
 //! | [`reduce_run`] | a run's twenty lines, its findings, and whether it stands |
 //! | [`sheet_text`] | the plain sheets of a whole job |
-//! | [`reduce_run_by_figure`], [`sheet_text_by_figure`] | the same, with a figure in place of the house rule's 24 and 25 points |
+//! | [`explain_finding`] | why a run has a finding: the numbers that the rule compares, and the certificate days |
+//! | [`explanation_text`] | the same as text |
+//! | [`reduce_run_by_figure`], [`sheet_text_by_figure`], [`explain_finding_by_figure`], [`explanation_text_by_figure`] | the same, with a figure in place of the house rule's 24 and 25 points |
 //! | [`round_distances`], [`rect_distances`] | a traverse layout |
 //!
 //! Each gives what succeeded, or an [`Error`]: the library's [`Refusal`], or why it
@@ -18,8 +20,8 @@
 //! A figure is a file of its own, an agency's steps of figure 1-1. The number of points
 //! that it asks for stands in place of the house rule's 24 and 25 of rule 9, and nothing
 //! else of a run goes by it. One that is not in order is refused, with 14, before the
-//! job is read; then come the job's own refusals, 1 to 8, then 10, then 9. Without a
-//! figure there is no 14.
+//! job is read; then come the job's own refusals, 1 to 8, then 10, then 15 for a finding
+//! that the run does not have, then 9. Without a figure there is no 14.
 //!
 //! [`Reduced`], [`Line`], [`Finding`] and [`Refusal`] display themselves in words,
 //! [`Refusal::in_job`] names the field that a job is refused for and
@@ -51,7 +53,7 @@
 //! high 32 bits hold a refusal's number (0 for success), the low 32 bits its place
 //! or what succeeded. Success leaves the bytes beyond an output as they were, and a
 //! refusal changes none. [`Line::from_bytes`] and [`Finding::from_bytes`] read what
-//! `reduce` writes.
+//! `reduce` writes, [`Explanation::from_bytes`] what `explain` writes.
 //!
 //! # Threads
 //!
@@ -60,6 +62,7 @@
 //! said in words needs no call, and every type here may be sent and shared.
 
 mod error;
+mod explanation;
 pub mod field;
 mod finding;
 mod line;
@@ -74,15 +77,17 @@ mod typed;
 mod way;
 
 pub use error::Error;
+pub use explanation::{CertificateDay, Condition, Explanation, Kind, Side, Way};
 pub use finding::{Class, Finding};
 pub use line::Line;
 pub use outputs::{
-    FINDING_LENGTH, LINES_LENGTH, LINE_COUNT, LINE_LENGTH, MOST_EXPLANATION, MOST_EXPLANATION_TEXT,
-    MOST_FINDINGS, MOST_TEXT,
+    CONDITION_LENGTH, DAY_LENGTH, FINDING_LENGTH, LINES_LENGTH, LINE_COUNT, LINE_LENGTH,
+    MOST_EXPLANATION, MOST_EXPLANATION_TEXT, MOST_FINDINGS, MOST_TEXT,
 };
 pub use reduced::Reduced;
 pub use refusal::Refusal;
 pub use typed::{
+    explain_finding, explain_finding_by_figure, explanation_text, explanation_text_by_figure,
     rect_distances, reduce_run, reduce_run_by_figure, round_distances, run_numbers, sheet_text,
     sheet_text_by_figure,
 };

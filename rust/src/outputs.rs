@@ -3,10 +3,13 @@
 /// The lines of a sheet.
 pub const LINE_COUNT: usize = 20;
 
-/// Bytes of one line, of all lines, of a finding and of a layout's distance.
+/// Bytes of one line, of all lines, of a finding, of a condition and of a certificate
+/// day that explain one, and of a layout's distance.
 pub const LINE_LENGTH: usize = 9;
 pub const LINES_LENGTH: usize = LINE_COUNT * LINE_LENGTH;
 pub const FINDING_LENGTH: usize = 4;
+pub const CONDITION_LENGTH: usize = 34;
+pub const DAY_LENGTH: usize = 5;
 pub const DISTANCE_LENGTH: usize = 4;
 
 /// It is proved that no run has more findings.

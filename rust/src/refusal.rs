@@ -5,11 +5,14 @@ use std::fmt;
 use crate::field;
 use crate::texts;
 
+/// The refusals up to this number are given for a byte of the job.
+const LAST_OF_A_JOB: u32 = 8;
+
 /// The number of the only refusal that is given for a figure.
 const BAD_FIGURE: u32 = 14;
 
 /// A refusal's number, and its place: a byte of the job for 1 to 8, of the figure for
-/// 14; 9, 10 and 11 are about no byte.
+/// 14; 9, 10, 11 and 15 are about no byte.
 #[derive(Clone, Copy, Debug, PartialEq, Eq)]
 pub struct Refusal {
     pub number: u32,
@@ -57,6 +60,11 @@ impl Refusal {
         field::figure_clause(self, figure).unwrap_or_else(|| self.cause().into())
     }
 
+    /// Whether it was given for a byte of the job.
+    pub fn is_about_a_byte_of_the_job(&self) -> bool {
+        self.number <= LAST_OF_A_JOB
+    }
+
     /// Whether it was given for the figure, and no job was read.
     pub fn is_about_the_figure(&self) -> bool {
         self.number == BAD_FIGURE
@@ -66,10 +74,11 @@ impl Refusal {
 impl fmt::Display for Refusal {
     fn fmt(&self, f: &mut fmt::Formatter) -> fmt::Result {
         write!(f, "refusal {}", self.number)?;
-        match self.number {
-            0..=8 => write!(f, " at byte {}", self.place)?,
-            BAD_FIGURE => write!(f, " at byte {} of the figure", self.place)?,
-            _ => (),
+        if self.is_about_a_byte_of_the_job() {
+            write!(f, " at byte {}", self.place)?;
+        }
+        if self.is_about_the_figure() {
+            write!(f, " at byte {} of the figure", self.place)?;
         }
         write!(f, ": {}", self.cause())
     }

@@ -133,6 +133,7 @@ pub const REFUSALS: &[RefusalText] = &[
     a_refusal(10, "the job has no run of that number"),
     a_refusal(11, "the layout is outside its ranges"),
     a_refusal(14, "the figure ends early, has a field out of range or order, or has bytes left over"),
+    a_refusal(15, "the run does not have that finding"),
 ];
 
 /// Said where a number stands in no table; no proved call gives such a one.

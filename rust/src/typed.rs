@@ -1,11 +1,13 @@
 //! The calls over Rust types: what succeeded, or why nothing did.
 
 use crate::error::Error;
+use crate::explanation::Explanation;
 use crate::finding::Finding;
 use crate::line::Line;
 use crate::outputs::{
     ACCEPTED, DISTANCE_LENGTH, FINDING_LENGTH, LINES_LENGTH, LINE_COUNT, LINE_LENGTH,
-    MOST_FINDINGS, MOST_RECTANGULAR, MOST_ROUND, MOST_TEXT,
+    MOST_EXPLANATION, MOST_EXPLANATION_TEXT, MOST_FINDINGS, MOST_RECTANGULAR, MOST_ROUND,
+    MOST_TEXT,
 };
 use crate::reduced::Reduced;
 use crate::way::{calls, Answer};
@@ -69,17 +71,76 @@ pub fn rect_distances(points: u16, first: u16, second: u16) -> Result<Vec<[u32; 
 
 /// The characters that the program `sheet` prints for a job that is read.
 pub fn sheet_text(job: &[u8]) -> Result<Vec<u8>, Error> {
-    text(|out| calls::sheet_text(job, out).value())
+    text(MOST_TEXT, |out| calls::sheet_text(job, out).value())
 }
 
 /// As [`sheet_text`], with the figure in place of the house rule's 24 and 25 points.
 pub fn sheet_text_by_figure(figure: &[u8], job: &[u8]) -> Result<Vec<u8>, Error> {
-    text(|out| calls::sheet_text_by_figure(figure, job, out).value())
+    text(MOST_TEXT, |out| {
+        calls::sheet_text_by_figure(figure, job, out).value()
+    })
 }
 
-/// The text that the call writes.
-fn text(call: impl FnOnce(&mut [u8]) -> Result<u32, Error>) -> Result<Vec<u8>, Error> {
-    let mut out = vec![0; MOST_TEXT];
+/// Why the run has the finding of that rule at that place; refused with 15 if it does
+/// not have it.
+///
+/// ```no_run
+/// # fn main() -> Result<(), Box<dyn std::error::Error>> {
+/// let job = std::fs::read("examples/worked.job")?;
+/// for finding in leverbonnet::reduce_run(&job, 7)?.findings {
+///     let (rule, place) = (finding.rule.into(), finding.place);
+///     let explanation = leverbonnet::explain_finding(&job, 7, rule, place)?;
+///     println!("{:?}", explanation.conditions);
+/// }
+/// # Ok(())
+/// # }
+/// ```
+pub fn explain_finding(job: &[u8], run: u16, rule: u16, place: u16) -> Result<Explanation, Error> {
+    explanation(|out| calls::explain(job, run, rule, place, out).value())
+}
+
+/// As [`explain_finding`], of the findings that [`reduce_run_by_figure`] gives.
+pub fn explain_finding_by_figure(
+    figure: &[u8],
+    job: &[u8],
+    run: u16,
+    rule: u16,
+    place: u16,
+) -> Result<Explanation, Error> {
+    explanation(|out| calls::explain_by_figure(figure, job, run, rule, place, out).value())
+}
+
+/// The explanation that the call writes.
+fn explanation(call: impl FnOnce(&mut [u8]) -> Result<u32, Error>) -> Result<Explanation, Error> {
+    let mut out = [0; MOST_EXPLANATION];
+    let written = call(&mut out)?;
+    Ok(Explanation::from_bytes(&out[..written as usize]))
+}
+
+/// The same as characters: the finding's line of the plain sheet and under it, two
+/// spaces in, a line for each condition and for each certificate day.
+pub fn explanation_text(job: &[u8], run: u16, rule: u16, place: u16) -> Result<Vec<u8>, Error> {
+    text(MOST_EXPLANATION_TEXT, |out| {
+        calls::explain_text(job, run, rule, place, out).value()
+    })
+}
+
+/// As [`explanation_text`], of the findings that [`reduce_run_by_figure`] gives.
+pub fn explanation_text_by_figure(
+    figure: &[u8],
+    job: &[u8],
+    run: u16,
+    rule: u16,
+    place: u16,
+) -> Result<Vec<u8>, Error> {
+    text(MOST_EXPLANATION_TEXT, |out| {
+        calls::explain_text_by_figure(figure, job, run, rule, place, out).value()
+    })
+}
+
+/// The text that the call writes, which has at most so many characters.
+fn text(most: usize, call: impl FnOnce(&mut [u8]) -> Result<u32, Error>) -> Result<Vec<u8>, Error> {
+    let mut out = vec![0; most];
     let written = call(&mut out)?;
     out.truncate(written as usize);
     Ok(out)

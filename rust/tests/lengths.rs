@@ -1,7 +1,10 @@
 //! The lengths here and in the C header are those that the crates are proved with.
 
 use leverbonnet::field::{FIGURE_HEADER, STEP, STEPS};
-use leverbonnet::{FINDING_LENGTH, LINES_LENGTH, LINE_LENGTH, MOST_FINDINGS, MOST_TEXT};
+use leverbonnet::{
+    CONDITION_LENGTH, DAY_LENGTH, FINDING_LENGTH, LINES_LENGTH, LINE_LENGTH, MOST_EXPLANATION,
+    MOST_EXPLANATION_TEXT, MOST_FINDINGS, MOST_TEXT,
+};
 
 const HEADER: &str = include_str!("../../include/leverbonnet.h");
 const LONGEST: &[u8] = include_bytes!("../../examples/longest-version-2.job");
@@ -52,6 +55,18 @@ fn of_a_text() {
         HEADER,
         &format!("#define LEVERBONNET_TEXT_BYTES_MOST {MOST_TEXT}"),
     );
+}
+
+#[test]
+fn of_an_explanation() {
+    for (name, length) in [
+        ("CONDITION_BYTES", CONDITION_LENGTH),
+        ("DAY_BYTES", DAY_LENGTH),
+        ("EXPLANATION_BYTES_MOST", MOST_EXPLANATION),
+        ("EXPLANATION_TEXT_BYTES_MOST", MOST_EXPLANATION_TEXT),
+    ] {
+        assert_holds(HEADER, &format!("#define LEVERBONNET_{name} {length}"));
+    }
 }
 
 #[test]

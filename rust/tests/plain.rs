@@ -6,7 +6,7 @@ use leverbonnet::linked as calls;
 #[cfg(not(all(target_arch = "x86_64", not(feature = "piped"))))]
 use leverbonnet::pipe as calls;
 
-use leverbonnet::MOST_TEXT;
+use leverbonnet::{MOST_EXPLANATION, MOST_EXPLANATION_TEXT, MOST_TEXT};
 
 const WORKED: &[u8] = include_bytes!("../../examples/worked.job");
 const WORKED_TEXT: &[u8] = include_bytes!("../../examples/worked.txt");
@@ -14,6 +14,16 @@ const WORKED_TEXT: &[u8] = include_bytes!("../../examples/worked.txt");
 /// One step in each list, made up. The worked job is far from disturbances, so that
 /// it comes to the same by any figure.
 const FIGURE: &[u8] = b"FIG\x01\0\x01\0\0\x30\x31\x01\0\0\x30\x31";
+
+/// The worked job's only finding, note 11 at segment 1, explained: no certificate day, and
+/// one condition, the first, which is above: 540,000 and 360,000, without a remainder.
+const EXPLAINED: [u8; 36] = [
+    1, 0, 1, 2, 0x60, 0x3D, 0x08, 0, 0, 0, 0, 0, 0x40, 0x7E, 0x05, 0, 0, 0, 0, 0, 0, 0, 0, 0, 0, 0,
+    0, 0, 0, 0, 0, 0, 0, 0, 0, 0,
+];
+const EXPLAINED_TEXT: &[u8] = b"NOTE 11 1
+  COMPARED 540000 ABOVE 360000  5 x time x leak; the smaller of 100 x time and 12 x volume (time in \
+seconds, leak in 0.001 cfm, volume in 0.001 ft3)\n";
 
 const UNTOUCHED: u8 = 0xA5;
 const TOO_SHORT: u64 = 9 << 32;
@@ -165,5 +175,85 @@ fn a_refused_text_by_figure_changes_no_byte() {
         let answer = calls::sheet_text_by_figure(figure, job, &mut out).word();
         assert_eq!(answer, refused);
         assert!(untouched(&out));
+    }
+}
+
+/// One of the four calls that explain the worked job's finding, over an output.
+type Explains = fn(&mut [u8]) -> u64;
+
+/// Each of the four, what it writes, and the room that always suffices.
+const EXPLAINING: [(Explains, &[u8], usize); 4] = [
+    (
+        |out| calls::explain(WORKED, 7, 11, 1, out).word(),
+        &EXPLAINED,
+        MOST_EXPLANATION,
+    ),
+    (
+        |out| calls::explain_by_figure(FIGURE, WORKED, 7, 11, 1, out).word(),
+        &EXPLAINED,
+        MOST_EXPLANATION,
+    ),
+    (
+        |out| calls::explain_text(WORKED, 7, 11, 1, out).word(),
+        EXPLAINED_TEXT,
+        MOST_EXPLANATION_TEXT,
+    ),
+    (
+        |out| calls::explain_text_by_figure(FIGURE, WORKED, 7, 11, 1, out).word(),
+        EXPLAINED_TEXT,
+        MOST_EXPLANATION_TEXT,
+    ),
+];
+
+#[test]
+fn an_explanation_is_written_and_nothing_beyond() {
+    for (explains, explained, most) in EXPLAINING {
+        let length = explained.len();
+        for room in [length, length + 1, most, 70_000] {
+            let mut out = vec![UNTOUCHED; room];
+            assert_eq!(explains(&mut out), length as u64);
+            assert_eq!(&out[..length], explained);
+            assert!(untouched(&out[length..]));
+        }
+    }
+}
+
+#[test]
+fn an_explanation_too_long_changes_no_byte() {
+    for (explains, explained, _) in EXPLAINING {
+        for room in 0..explained.len() {
+            let mut out = vec![UNTOUCHED; room];
+            assert_eq!(explains(&mut out), TOO_SHORT);
+            assert!(untouched(&out));
+        }
+    }
+}
+
+#[test]
+fn an_explanation_that_is_refused_changes_no_byte() {
+    let short = &FIGURE[..FIGURE.len() - 1];
+    for (figure, job, run, place, refused) in [
+        (short, &WORKED[..9], 8, 2, 14 << 32 | 14),
+        (FIGURE, &WORKED[..9], 8, 2, 1 << 32 | 9),
+        (FIGURE, WORKED, 8, 2, 10 << 32),
+        (FIGURE, WORKED, 7, 2, 15 << 32),
+    ] {
+        // Whether the output would suffice or not.
+        for room in [0, 1_024] {
+            let mut out = vec![UNTOUCHED; room];
+            if figure == FIGURE {
+                assert_eq!(
+                    calls::explain(job, run, 11, place, &mut out).word(),
+                    refused
+                );
+                let answer = calls::explain_text(job, run, 11, place, &mut out).word();
+                assert_eq!(answer, refused);
+            }
+            let answer = calls::explain_by_figure(figure, job, run, 11, place, &mut out).word();
+            assert_eq!(answer, refused);
+            let answer = calls::explain_text_by_figure(figure, job, run, 11, place, &mut out);
+            assert_eq!(answer.word(), refused);
+            assert!(untouched(&out));
+        }
     }
 }

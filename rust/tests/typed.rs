@@ -162,6 +162,7 @@ fn every_type_may_be_sent_and_shared() {
     fn assert<T: Send + Sync>() {}
     assert::<Error>();
     assert::<Reduced>();
+    assert::<leverbonnet::Explanation>();
     assert::<leverbonnet::field::Record>();
     assert::<leverbonnet::texts::RuleText>();
     assert::<leverbonnet::texts::ClassText>();

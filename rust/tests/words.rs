@@ -254,7 +254,7 @@ fn a_refusal_about_a_byte_of_the_figure_says_so() {
 
 #[test]
 fn a_refusal_about_no_byte_names_none() {
-    for number in 9..=11 {
+    for number in [9, 10, 11, 15] {
         let said = Refusal { number, place: 0 }.to_string();
         assert!(!said.contains("byte"), "{said}");
     }
@@ -263,8 +263,8 @@ fn a_refusal_about_no_byte_names_none() {
 #[test]
 fn every_refusal_has_a_cause_of_its_own() {
     let cause = |number| Refusal { number, place: 0 }.cause();
-    let mut causes: Vec<_> = (1..=11).chain([14]).map(cause).collect();
-    for none in [0, 12, 13, 15, u32::MAX] {
+    let mut causes: Vec<_> = (1..=11).chain([14, 15]).map(cause).collect();
+    for none in [0, 12, 13, 16, u32::MAX] {
         assert_eq!(cause(none), "no refusal has that number");
     }
     causes.sort_unstable();
