@@ -1,8 +1,8 @@
 /*
- * Tries the calls and the words at their edges: layouts, NULL with length 0, versions
- * and numbers that there are not, figures and outputs that are too short, texts that
- * are cut off. The job on standard input
- * is examples/several-runs.job, whose run 1 has no finding.
+ * Tries the calls and the words at their edges: layouts, NULL with length 0, versions,
+ * numbers and findings that there are not, figures and outputs that are too short, texts
+ * that are cut off. The job on standard input is examples/several-runs.job, whose run 1
+ * has no finding.
  *
  * Status 0: all is as it must be; 1: something is not, which is told.
  */
@@ -73,6 +73,8 @@ static void no_job(void)
     MUST(leverbonnet_run_count(NULL, 0) == REFUSED(1, 0));
     MUST(leverbonnet_run_number(NULL, 0, 0) == REFUSED(1, 0));
     MUST(leverbonnet_sheet_text(NULL, 0, NULL, 0) == REFUSED(1, 0));
+    MUST(leverbonnet_explain(NULL, 0, 2, 5, 0, NULL, 0) == REFUSED(1, 0));
+    MUST(leverbonnet_explain_text(NULL, 0, 2, 5, 0, NULL, 0) == REFUSED(1, 0));
 }
 
 /* Of length 0 any buffer may be NULL, and the figure is judged first. */
@@ -84,6 +86,10 @@ static void no_figure_or_no_job(void)
     MUST(leverbonnet_sheet_text_by_figure(NULL, 0, NULL, 0, NULL, 0) == REFUSED(14, 0));
     MUST(leverbonnet_sheet_text_by_figure(NULL, 0, job, job_len, NULL, 0) == REFUSED(14, 0));
     MUST(leverbonnet_sheet_text_by_figure(figure, figure_len, NULL, 0, NULL, 0) == REFUSED(1, 0));
+    MUST(leverbonnet_explain_by_figure(NULL, 0, NULL, 0, 998, 0, 0, NULL, 0) == REFUSED(14, 0));
+    MUST(leverbonnet_explain_by_figure(figure, figure_len, NULL, 0, 2, 5, 0, NULL, 0) == REFUSED(1, 0));
+    MUST(leverbonnet_explain_text_by_figure(NULL, 0, NULL, 0, 998, 0, 0, NULL, 0) == REFUSED(14, 0));
+    MUST(leverbonnet_explain_text_by_figure(figure, figure_len, NULL, 0, 2, 5, 0, NULL, 0) == REFUSED(1, 0));
 }
 
 /* A figure that ends early is refused at its end, one that goes on at the first byte too many. */
@@ -159,6 +165,94 @@ static void outputs_by_figure(void)
     MUST(memcmp(findings, same_findings, sizeof same_findings) == 0 && findings[sizeof same_findings] == 7);
     MUST(leverbonnet_reduce_by_figure(figure, figure_len, job, job_len, 2, lines, sizeof same_lines, findings,
                                       sizeof same_findings) == answer);
+}
+
+/* Each of the four calls, all by one name. */
+enum { as_bytes, as_bytes_by_figure, as_text, as_text_by_figure, ways_to_explain };
+
+static uint64_t explain(int way, uint16_t run, uint16_t rule, uint16_t place, uint8_t *out, size_t out_len)
+{
+    switch (way) {
+    case as_bytes:
+        return leverbonnet_explain(job, job_len, run, rule, place, out, out_len);
+    case as_bytes_by_figure:
+        return leverbonnet_explain_by_figure(figure, figure_len, job, job_len, run, rule, place, out, out_len);
+    case as_text:
+        return leverbonnet_explain_text(job, job_len, run, rule, place, out, out_len);
+    default:
+        return leverbonnet_explain_text_by_figure(figure, figure_len, job, job_len, run, rule, place, out, out_len);
+    }
+}
+
+static int is_untouched(const uint8_t *bytes, size_t length)
+{
+    return length == 0 || (bytes[0] == 7 && memcmp(bytes, bytes + 1, length - 1) == 0);
+}
+
+/* Note 5 of run 2, explained: exact room suffices, any less does not, and no byte beyond is touched. */
+static void explanations(void)
+{
+    uint8_t out[LEVERBONNET_EXPLANATION_TEXT_BYTES_MOST + 1];
+    uint64_t length, room;
+    int way;
+    for (way = 0; way < ways_to_explain; way++) {
+        memset(out, 7, sizeof out);
+        length = explain(way, 2, 5, 0, out, sizeof out);
+        MUST(length > 0 && length < sizeof out && is_untouched(out + length, sizeof out - (size_t)length));
+        memset(out, 7, sizeof out);
+        MUST(explain(way, 2, 5, 0, NULL, 0) == REFUSED(9, 0));
+        for (room = 0; room < length && room < sizeof out; room++)
+            MUST(explain(way, 2, 5, 0, out, (size_t)room) == REFUSED(9, 0));
+        MUST(is_untouched(out, sizeof out));
+        MUST(explain(way, 2, 5, 0, out, (size_t)length) == length);
+        MUST(is_untouched(out + length, sizeof out - (size_t)length));
+    }
+}
+
+/* A run or a finding that there is not is told before an output that is too short, and changes no byte. */
+static void no_such_finding(void)
+{
+    static const uint16_t none[][2] = {{5, 1}, {4, 0}, {11, 0}, {11, 2}, {0, 0}, {13, 0}, {261, 0}, {65535, 65535}};
+    uint8_t out[LEVERBONNET_EXPLANATION_TEXT_BYTES_MOST];
+    size_t k;
+    int way;
+    memset(out, 7, sizeof out);
+    for (way = 0; way < ways_to_explain; way++) {
+        MUST(explain(way, 998, 5, 0, out, sizeof out) == REFUSED(10, 0));
+        MUST(explain(way, 998, 0, 0, NULL, 0) == REFUSED(10, 0));
+        MUST(explain(way, 1, 5, 0, out, sizeof out) == REFUSED(15, 0));
+        for (k = 0; k < sizeof none / sizeof none[0]; k++) {
+            MUST(explain(way, 2, none[k][0], none[k][1], out, sizeof out) == REFUSED(15, 0));
+            MUST(explain(way, 2, none[k][0], none[k][1], NULL, 0) == REFUSED(15, 0));
+        }
+    }
+    MUST(leverbonnet_explain_by_figure(figure, 3, NULL, 0, 998, 0, 0, out, sizeof out) == REFUSED(14, 3));
+    MUST(leverbonnet_explain_text_by_figure(figure, 3, NULL, 0, 998, 0, 0, out, sizeof out) == REFUSED(14, 3));
+    MUST(is_untouched(out, sizeof out));
+}
+
+/* Run 2's factor was 1.0300 on day 8980 and 0.9700 on day 9020: 20 times 600 is above 10,300. */
+static void explanation_taken_apart(void)
+{
+    uint8_t out[LEVERBONNET_EXPLANATION_BYTES_MOST];
+    leverbonnet_condition moved;
+    leverbonnet_day before, after;
+    MUST(explain(as_bytes, 2, 5, 0, out, sizeof out) == 2 + LEVERBONNET_CONDITION_BYTES + 2 * LEVERBONNET_DAY_BYTES);
+    MUST(leverbonnet_condition_count(out) == 1 && leverbonnet_day_count(out) == 2);
+    moved = leverbonnet_condition_of(out, 0);
+    MUST(moved.which == 1 && moved.way == 2 && moved.left == 12000 && moved.right == 10300);
+    MUST(moved.remainder == 0 && moved.remainder_limit == 0);
+    before = leverbonnet_day_of(out, 0);
+    MUST(before.kind == 1 && before.side == 1 && before.found && before.day == 8980);
+    after = leverbonnet_day_of(out, 1);
+    MUST(after.kind == 1 && after.side == 2 && after.found && after.day == 9020);
+    /* Nothing is certified of the meter of run 10. */
+    MUST(explain(as_bytes, 10, 1, 0, out, sizeof out) == 2 + 2 * LEVERBONNET_DAY_BYTES);
+    MUST(leverbonnet_condition_count(out) == 0 && leverbonnet_day_count(out) == 2);
+    MUST(!leverbonnet_day_of(out, 0).found && leverbonnet_day_of(out, 0).day == 0);
+    /* Run 13 caught less than nothing. */
+    MUST(explain(as_bytes, 13, 20, 0, out, sizeof out) == 2 + LEVERBONNET_CONDITION_BYTES);
+    MUST(leverbonnet_condition_of(out, 0).left == -24 && leverbonnet_day_count(out) == 0);
 }
 
 /* A header of version 1 or 2 is good, and its run is missing; any other version is refused for itself. */
@@ -273,7 +367,8 @@ static void refusals_in_words(void)
     refusal_must_read(REFUSED(14, 5),
                       "refusal 14 at byte 5 of the figure: the figure ends early, has a field out of range or order, or "
                       "has bytes left over");
-    refusal_must_read(REFUSED(15, 5), "refusal 15: no refusal has that number");
+    refusal_must_read(REFUSED(15, 0), "refusal 15: the run does not have that finding");
+    refusal_must_read(REFUSED(16, 5), "refusal 16: no refusal has that number");
     refusal_must_read(REFUSED(99, 0), "refusal 99: no refusal has that number");
 }
 
@@ -324,6 +419,9 @@ int main(void)
     figures_in_trouble();
     same_by_figure();
     outputs_by_figure();
+    explanations();
+    no_such_finding();
+    explanation_taken_apart();
     versions();
     runs_cut_short();
     no_output();

@@ -12,6 +12,9 @@
 /* Refusals up to last_refusal_of_job are about a byte of the job, refusal_of_figure about one of the figure. */
 enum { line_count = 20, last_refusal_of_job = 8, refusal_of_figure = 14, note_class = 2 };
 
+/* The bytes of an explanation before its first condition. */
+enum { counts_length = 2 };
+
 /* Line 1 first: its name, its unit, its decimals. */
 static const struct {
     const char *name;
@@ -94,6 +97,7 @@ static const struct {
     {10, "the job has no run of that number"},
     {11, "the layout is outside its ranges"},
     {14, "the figure ends early, has a field out of range or order, or has bytes left over"},
+    {15, "the run does not have that finding"},
 };
 
 #define ROWS(table) (sizeof(table) / sizeof(table)[0])
@@ -185,6 +189,42 @@ leverbonnet_finding leverbonnet_finding_of(const uint8_t *findings, size_t index
     finding.fault = bytes[1] != note_class;
     finding.place = (unsigned)number_of(bytes + 2, LEVERBONNET_FINDING_BYTES - 2);
     return finding;
+}
+
+unsigned leverbonnet_condition_count(const uint8_t *explanation)
+{
+    return explanation[0];
+}
+
+unsigned leverbonnet_day_count(const uint8_t *explanation)
+{
+    return explanation[1];
+}
+
+leverbonnet_condition leverbonnet_condition_of(const uint8_t *explanation, size_t index)
+{
+    const uint8_t *bytes = explanation + counts_length + index * LEVERBONNET_CONDITION_BYTES;
+    leverbonnet_condition condition;
+    condition.which = bytes[0];
+    condition.way = bytes[1];
+    condition.left = (int64_t)number_of(bytes + 2, 8);
+    condition.right = (int64_t)number_of(bytes + 10, 8);
+    condition.remainder = (int64_t)number_of(bytes + 18, 8);
+    condition.remainder_limit = (int64_t)number_of(bytes + 26, 8);
+    return condition;
+}
+
+leverbonnet_day leverbonnet_day_of(const uint8_t *explanation, size_t index)
+{
+    size_t conditions = leverbonnet_condition_count(explanation);
+    const uint8_t *bytes = explanation + counts_length + conditions * LEVERBONNET_CONDITION_BYTES +
+                           index * LEVERBONNET_DAY_BYTES;
+    leverbonnet_day day;
+    day.kind = bytes[0];
+    day.side = bytes[1];
+    day.found = bytes[2] == 1;
+    day.day = (unsigned)number_of(bytes + 3, 2);
+    return day;
 }
 
 /* Writes a value with its decimals: a sign, 20 digits, a point and a 0 fit. */

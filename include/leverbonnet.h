@@ -1,5 +1,5 @@
 /*
- * leverbonnet.h - the eight calls of the proved library.
+ * leverbonnet.h - the twelve calls of the proved library.
  *
  * What they read and write is described byte by byte in docs/RULES.md. What they
  * write can be taken apart and said in words with leverbonnet_words.h.
@@ -13,7 +13,7 @@
  *
  * A figure is a file of its own, an agency's reading of figure 1-1 as steps: how many
  * points it asks for at which distances from the last disturbance and to the next.
- * The two calls by a figure take its number of points in place of the house rule's 24
+ * The four calls by a figure take its number of points in place of the house rule's 24
  * and 25 of rule 9; the 12, 8 and 9 points that suffice far from disturbances stay,
  * and so does all else. The other calls know no figure.
  *
@@ -53,9 +53,10 @@
  *         has a field that is out of its range, a
  *         distance that does not rise or points that do, place: its first byte
  *         or has bytes left over                         place: first of them
+ *     15  the run does not have that finding             place: 0
  *
- * A job is judged from its front and the first trouble met is the answer; 10
- * and then 9 come only once the whole job was found good. A figure is judged so
+ * A job is judged from its front and the first trouble met is the answer; 10,
+ * then 15 and then 9 come only once the whole job was found good. A figure is judged so
  * too, field by field, before the job is read: 14 comes before every other number.
  * A layout answers 11 before 9. All outputs are little-endian.
  */
@@ -73,10 +74,13 @@ extern "C" {
 #define LEVERBONNET_REFUSAL(answer) ((uint32_t)((answer) >> 32))
 #define LEVERBONNET_VALUE(answer) ((uint32_t)(answer))
 
-/* Bytes of one line, of a reduced run's twenty lines, and of one finding. */
+/* Bytes of one line, of a reduced run's twenty lines, of one finding, and of a
+ * condition and a certificate day that explain one. */
 #define LEVERBONNET_LINE_BYTES 9
 #define LEVERBONNET_LINES_BYTES (20 * LEVERBONNET_LINE_BYTES)
 #define LEVERBONNET_FINDING_BYTES 4
+#define LEVERBONNET_CONDITION_BYTES 34
+#define LEVERBONNET_DAY_BYTES 5
 
 /* Enough bytes for the findings of any run: it is proved that none has more than
  * 98. */
@@ -84,6 +88,10 @@ extern "C" {
 
 /* Enough bytes for the text of any job: it is proved that none has more. */
 #define LEVERBONNET_TEXT_BYTES_MOST 27088
+
+/* Enough bytes for the explanation of any finding, and enough for its text. */
+#define LEVERBONNET_EXPLANATION_BYTES_MOST 70
+#define LEVERBONNET_EXPLANATION_TEXT_BYTES_MOST 1024
 
 /* The longest job, which is of version 2. Of a longer file nothing past the next
  * byte changes an answer. */
@@ -157,6 +165,69 @@ uint64_t leverbonnet_sheet_text_by_figure(const uint8_t *figure,
                                           size_t figure_len, const uint8_t *job,
                                           size_t job_len, uint8_t *out,
                                           size_t out_len);
+
+/*
+ * Explains the finding of that rule at that place, as leverbonnet_reduce writes both,
+ * of the run of that number: every condition of the rule that is broken, with the
+ * numbers that the rule compares, and the days of the certificates that were used.
+ *
+ * out: one byte, the number of conditions, 0 to 2; one byte, the number of certificate
+ * days, 0 to 4; then the conditions, 34 bytes each, and then the days, 5 bytes each.
+ *
+ * A condition: which of the rule's it is (1, or 2 for the second of rules 8 and 9), the
+ * way (1 below, 2 above, 3 equal, 4 differs), and four signed 64-bit numbers: left,
+ * right, remainder and the remainder's limit. It is broken because left stands to right
+ * in that way. Rules 15 and 16 compare a quotient: where left and right are equal the
+ * remainder stands to its limit, which is 0, in that way. Of any other rule both are 0.
+ * A finding of rules 1 to 4 has no condition; the days tell it.
+ *
+ * A certificate day: the kind (1 meter, 2 pitot tube, 3 nozzle), the side (1 on the
+ * run's day or earlier, 2 later), 1 if there is such a certificate and 0 if there is
+ * none, and its day as 16 bits (0 if there is none): the nearest to the run's day of
+ * those with the kind, maker, serial and letter that the run names. Meter, pitot tube
+ * and nozzle stand in this order, and of each side 1 before side 2. docs/RULES.md says
+ * which of them a rule has.
+ *
+ * Succeeds with the number of bytes written. Answers 15 if the run does not have that
+ * finding, then 9 if the output is shorter than its explanation.
+ */
+uint64_t leverbonnet_explain(const uint8_t *job, size_t job_len, uint16_t run,
+                             uint16_t rule, uint16_t place, uint8_t *out,
+                             size_t out_len);
+
+/*
+ * The same of a finding that leverbonnet_reduce_by_figure writes: of rule 9 the least
+ * number of points is the figure's, where it counts. Answers 14 for a figure that is not
+ * in order, whatever all else is; else 1 to 8, 10, 15 and 9.
+ */
+uint64_t leverbonnet_explain_by_figure(const uint8_t *figure, size_t figure_len,
+                                       const uint8_t *job, size_t job_len,
+                                       uint16_t run, uint16_t rule,
+                                       uint16_t place, uint8_t *out,
+                                       size_t out_len);
+
+/*
+ * The same as leverbonnet_explain, as characters: the finding's line as `sheet` prints
+ * it, and under it, two spaces in, a line for each condition and for each certificate
+ * day.
+ *
+ * Succeeds with the number of characters. Answers 15 if the run does not have that
+ * finding, then 9 if the output is shorter than the text.
+ */
+uint64_t leverbonnet_explain_text(const uint8_t *job, size_t job_len,
+                                  uint16_t run, uint16_t rule, uint16_t place,
+                                  uint8_t *out, size_t out_len);
+
+/*
+ * The same of a finding that leverbonnet_reduce_by_figure writes. Answers 14 for a
+ * figure that is not in order, whatever all else is; else 1 to 8, 10, 15 and 9.
+ */
+uint64_t leverbonnet_explain_text_by_figure(const uint8_t *figure,
+                                            size_t figure_len,
+                                            const uint8_t *job, size_t job_len,
+                                            uint16_t run, uint16_t rule,
+                                            uint16_t place, uint8_t *out,
+                                            size_t out_len);
 
 /*
  * Lays out the points on one diameter of a round stack: points even, 2 to 24;

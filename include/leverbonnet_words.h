@@ -2,7 +2,8 @@
  * leverbonnet_words.h - what the proved library writes, taken apart and in words.
  *
  * For a program in C or C++; c/leverbonnet_words.c is compiled into it. The names
- * and sentences are those of the Rust package and of `leverbonnet sheet --words`.
+ * and sentences are those of the Rust package and of `leverbonnet sheet --words`. The
+ * words of an explanation are the library's own, from leverbonnet_explain_text.
  *
  * Every function may be called from any thread, and from several at once.
  */
@@ -32,6 +33,28 @@ typedef struct {
     unsigned place;
 } leverbonnet_finding;
 
+/* A condition of a rule that is broken: which of the rule's it is, the way that left
+ * stands to right (1 below, 2 above, 3 equal, 4 differs), both numbers, and of rules 15
+ * and 16 the remainder with its limit, which are 0 of any other. */
+typedef struct {
+    unsigned which;
+    unsigned way;
+    int64_t left;
+    int64_t right;
+    int64_t remainder;
+    int64_t remainder_limit;
+} leverbonnet_condition;
+
+/* A certificate day: the kind (1 meter, 2 pitot tube, 3 nozzle), the side (1 on the run's
+ * day or earlier, 2 later), whether there is such a certificate, and its day, 0 if there
+ * is none. */
+typedef struct {
+    unsigned kind;
+    unsigned side;
+    int found;
+    unsigned day;
+} leverbonnet_day;
+
 /* The line of that number, 1 to 20, of the 180 bytes that leverbonnet_reduce or
  * leverbonnet_reduce_by_figure wrote. Any other number gives an absent line. */
 leverbonnet_line leverbonnet_line_of(const uint8_t *lines, unsigned number);
@@ -39,6 +62,14 @@ leverbonnet_line leverbonnet_line_of(const uint8_t *lines, unsigned number);
 /* The finding at that index, counted from 0 and below the number of findings that
  * the same call answered, of the bytes that it wrote. */
 leverbonnet_finding leverbonnet_finding_of(const uint8_t *findings, size_t index);
+
+/* How many conditions and how many certificate days the bytes have that
+ * leverbonnet_explain or leverbonnet_explain_by_figure wrote, and the one at that index,
+ * counted from 0 and below their number. */
+unsigned leverbonnet_condition_count(const uint8_t *explanation);
+unsigned leverbonnet_day_count(const uint8_t *explanation);
+leverbonnet_condition leverbonnet_condition_of(const uint8_t *explanation, size_t index);
+leverbonnet_day leverbonnet_day_of(const uint8_t *explanation, size_t index);
 
 /* The name of a line, the unit that its value is shown in, and with how many
  * decimals. Of a number that no line has, "no such line", "" and 0. */
