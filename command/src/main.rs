@@ -1,10 +1,14 @@
-//! The command `leverbonnet`: prints the sheets of jobs, lays out traverse
-//! points, installs itself. Its words are judged by the package `words`, and
-//! every sheet and every distance comes from a proved call.
+//! The command `leverbonnet`: prints the sheets of jobs, explains their findings, lays
+//! out traverse points, installs itself. Its words are judged by the package `words`, and
+//! every sheet, every explanation and every distance comes from a proved call.
 
+mod calls;
 mod drawing;
+mod explain;
+mod input;
 mod install;
 mod layout;
+mod page;
 mod sheet;
 mod trouble;
 
@@ -28,6 +32,7 @@ fn main() -> ExitCode {
 fn done(work: Work) -> Status {
     match work {
         Work::Sheet(sheet) => sheet::printed(&sheet),
+        Work::Explain(explain) => explain::printed(&explain),
         Work::Layout(layout) => layout::printed(&layout),
         Work::Install(folder) => install::installed(folder.as_ref()),
     }

@@ -7,10 +7,16 @@ pub fn refused(refusal: &Refusal) -> String {
     format!("REFUSED {} {}\n", refusal.number, refusal.place)
 }
 
-/// What is wrong with a refused job and where, as the end of a sentence.
+/// What is wrong with a refused job and where, as the end of a sentence. A run or a
+/// finding that it does not have is about no byte of it.
 pub fn in_job(refusal: &Refusal, job: &[u8]) -> String {
     let (number, place) = (refusal.number, refusal.place);
-    format!("{} ({number} at byte {place}).", refusal.in_job(job))
+    let clause = refusal.in_job(job);
+    if refusal.is_about_a_byte_of_the_job() {
+        format!("{clause} ({number} at byte {place}).")
+    } else {
+        format!("{clause} ({number}).")
+    }
 }
 
 /// What is wrong with a refused figure and where, as the end of a sentence.

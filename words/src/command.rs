@@ -4,7 +4,7 @@ use std::ffi::{OsStr, OsString};
 
 use crate::complaint::{shown, Complaint};
 use crate::given::{Given, Known};
-use crate::{help, install, layout, sheet, test, version, Work};
+use crate::{explain, help, install, layout, sheet, test, version, Work};
 
 /// What a command asks for.
 #[derive(Debug, PartialEq, Eq)]
@@ -27,8 +27,9 @@ pub(crate) struct Command {
 }
 
 /// In the order of the short help.
-pub(crate) const COMMANDS: [&Command; 6] = [
+pub(crate) const COMMANDS: [&Command; 7] = [
     &sheet::COMMAND,
+    &explain::COMMAND,
     &layout::COMMAND,
     &install::COMMAND,
     &test::COMMAND,
@@ -117,7 +118,7 @@ mod tests {
         let sentence = complaint(&["sheets"]);
         assert_eq!(
             sentence,
-            "sheets is no command: there are sheet, layout, install, test, help, --version."
+            "sheets is no command: there are sheet, explain, layout, install, test, help, --version."
         );
     }
 
@@ -151,6 +152,11 @@ mod tests {
             &["sheet", "--figure", "a", "--figure", "b"],
             &["sheet", "--figure=a"],
             &["sheet", "--figure", "-"],
+            &["explain"],
+            &["explain", "a", "seven"],
+            &["explain", "a", "7", "9"],
+            &["explain", "a", "7", "9", "0", "0"],
+            &["explain", "-", "--figure", "-"],
             &["layout"],
             &["layout", "square", "9", "240", "250"],
             &["layout", "round", "six", "240", "250"],

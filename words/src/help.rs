@@ -67,7 +67,7 @@ mod tests {
 
     #[test]
     fn help_of_a_word_is_that_words_own() {
-        for name in ["sheet", "layout", "install", "test", "help"] {
+        for name in ["sheet", "explain", "layout", "install", "test", "help"] {
             let words = vec!["help".into(), name.into()];
             let command = named(name.as_ref()).unwrap();
             assert_eq!(asked(words), Ok(Asked::Text(of(command))));

@@ -6,7 +6,8 @@ use std::fmt;
 use crate::command::{Asked, Command};
 use crate::complaint::{shown, Complaint};
 use crate::given::{Given, Known};
-use crate::size::{self, Size};
+use crate::number::number;
+use crate::size::Size;
 use crate::Work;
 
 const ROUND: &str = "layout round POINTS DIAMETER NOZZLE [--svg]";
@@ -19,7 +20,7 @@ const SVG: Known = Known {
 pub(crate) const COMMAND: Command = Command {
     name: "layout",
     usage: &[
-        [ROUND, "the points on a round stack's diameter"],
+        [ROUND, "the points of a round stack"],
         [RECTANGULAR, "the points of a rectangular stack"],
     ],
     about: "\
@@ -124,7 +125,7 @@ fn numbers(mut given: Given, sizes: [Size; 2], usage: &str) -> Result<(u16, [u16
     let first = given.needed(&format!("the {}", sizes[0].name), usage)?;
     let second = given.needed(&format!("the {}", sizes[1].name), usage)?;
     given.ended(usage)?;
-    let points = size::points(&points)?;
+    let points = number("number of points", &points)?;
     Ok((points, [sizes[0].units(&first)?, sizes[1].units(&second)?]))
 }
 

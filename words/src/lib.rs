@@ -5,13 +5,16 @@
 
 mod command;
 mod complaint;
+mod explain;
 mod gate;
 mod given;
 mod help;
 mod install;
 mod layout;
+mod number;
 mod sheet;
 mod size;
+mod source;
 mod status;
 mod test;
 mod version;
@@ -21,9 +24,11 @@ pub mod standard;
 use std::ffi::OsString;
 
 pub use crate::complaint::shown;
+pub use crate::explain::{Explain, Part};
 pub use crate::gate::project;
 pub use crate::layout::{Layout, Stack};
-pub use crate::sheet::{Sheet, Source};
+pub use crate::sheet::Sheet;
+pub use crate::source::Source;
 pub use crate::status::Status;
 
 use crate::command::Asked;
@@ -32,6 +37,7 @@ use crate::command::Asked;
 #[derive(Debug, PartialEq, Eq)]
 pub enum Work {
     Sheet(Sheet),
+    Explain(Explain),
     Layout(Layout),
     /// The folder to put the program in.
     Install(OsString),

@@ -1,11 +1,9 @@
 //! sheet [--words] [--figure FIGURE] [FILE..]
 
-use std::ffi::OsString;
-use std::path::PathBuf;
-
 use crate::command::{Asked, Command};
 use crate::complaint::Complaint;
 use crate::given::{Given, Known};
+use crate::source::{self, Source, FIGURE};
 use crate::Work;
 
 const USAGE: &str = "sheet [--words] [--figure FIGURE] [FILE..]";
@@ -13,11 +11,6 @@ const USAGE: &str = "sheet [--words] [--figure FIGURE] [FILE..]";
 const WORDS: Known = Known {
     name: "--words",
     takes: None,
-};
-
-const FIGURE: Known = Known {
-    name: "--figure",
-    takes: Some("FIGURE"),
 };
 
 pub(crate) const COMMAND: Command = Command {
@@ -51,35 +44,15 @@ pub struct Sheet {
     pub in_words: bool,
 }
 
-/// Where a job or a figure is read from.
-#[derive(Debug, PartialEq, Eq)]
-pub enum Source {
-    StandardInput,
-    File(PathBuf),
-}
-
-impl From<OsString> for Source {
-    fn from(word: OsString) -> Self {
-        if word == "-" {
-            Source::StandardInput
-        } else {
-            Source::File(word.into())
-        }
-    }
-}
-
 fn read(mut given: Given) -> Result<Asked, Complaint> {
     let in_words = given.has(WORDS.name);
-    let figure = given.word_of(FIGURE.name, USAGE)?.map(Source::from);
+    let figure = source::figure(&mut given, USAGE)?;
     let words = std::iter::from_fn(|| given.next());
     let mut sources: Vec<Source> = words.map(Source::from).collect();
     if sources.is_empty() && figure == Some(Source::StandardInput) {
         return Err("standard input is the figure: name the FILE of the job.".into());
     }
-    let inputs = sources.iter().chain(&figure);
-    if inputs.filter(|one| **one == Source::StandardInput).count() > 1 {
-        return Err("standard input can be read once: give - at most once.".into());
-    }
+    source::read_once(sources.iter().chain(&figure))?;
     if sources.is_empty() {
         sources.push(Source::StandardInput);
     }
@@ -92,6 +65,8 @@ fn read(mut given: Given) -> Result<Asked, Complaint> {
 
 #[cfg(test)]
 mod tests {
+    use std::ffi::OsString;
+
     use super::*;
     use crate::command::asked;
 

@@ -1,10 +1,10 @@
-//! The numbers of a layout: how many points, and sizes in their file's units
-//! or in inches. A size in inches has to come out in whole units, because
-//! nothing is rounded that the crew did not round.
+//! The sizes of a layout, in their file's units or in inches. A size in inches has
+//! to come out in whole units, because nothing is rounded that the crew did not round.
 
 use std::ffi::OsStr;
 
 use crate::complaint::{shown, Complaint};
+use crate::number::{is_digits, whole};
 
 /// A size that is asked for, and its unit: 10 to the power of -`decimals` in.
 pub(crate) struct Size {
@@ -75,16 +75,6 @@ impl Size {
     }
 }
 
-/// The number of points.
-pub(crate) fn points(word: &OsStr) -> Result<u16, Complaint> {
-    let points = whole(word.to_str().unwrap_or(""));
-    let points = points.and_then(|points| u16::try_from(points).ok());
-    points.ok_or_else(|| {
-        let (word, greatest) = (shown(word), u16::MAX);
-        format!("the number of points {word} is no whole number up to {greatest}.").into()
-    })
-}
-
 /// A number with or without a point: at least one digit before it and, where
 /// it is there, after it.
 struct Decimal<'a> {
@@ -105,15 +95,6 @@ impl<'a> Decimal<'a> {
         let zeros = "0".repeat(decimals.checked_sub(after.len())?);
         whole(&format!("{}{after}{zeros}", self.before))
     }
-}
-
-fn is_digits(text: &str) -> bool {
-    !text.is_empty() && text.bytes().all(|byte| byte.is_ascii_digit())
-}
-
-/// The value of digits; the greatest u64 stands for all that are greater.
-fn whole(text: &str) -> Option<u64> {
-    is_digits(text).then(|| text.parse().unwrap_or(u64::MAX))
 }
 
 #[cfg(test)]
@@ -198,14 +179,6 @@ mod tests {
         ] {
             let sentence = units(&SIDE, word).unwrap_err();
             assert!(sentence.contains("is neither a whole number"), "{sentence}");
-        }
-    }
-
-    #[test]
-    fn points_are_a_bare_whole_number() {
-        assert_eq!(points(OsStr::new("12")).ok(), Some(12));
-        for word in ["", "12in", "12.0", "65536", "x", "-1"] {
-            assert!(points(OsStr::new(word)).is_err(), "{word}");
         }
     }
 

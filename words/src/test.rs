@@ -8,7 +8,7 @@ const USAGE: &str = "test";
 
 pub(crate) const COMMAND: Command = Command {
     name: "test",
-    usage: &[[USAGE, "prove everything anew and run all tests"]],
+    usage: &[[USAGE, "prove everything and run all tests"]],
     about: "\
 This is the project's gate, .ci/run. It deletes target/ with all that was proved
 and built, and proves everything anew: some 20 minutes on two cores. It needs

@@ -1,12 +1,32 @@
-//! What one source comes to.
+//! What one source comes to: the text of its job, or why there is none.
 
 use std::io;
 
 use leverbonnet::{Error, Refusal};
 use words::{standard, Source, Status};
 
-use super::{calls, input};
-use crate::trouble;
+use crate::{calls, input, trouble};
+
+/// Prints what comes of the figure, which all of it goes by where one is asked for. It
+/// has to be had and found good before any job is read; else a page that says why not is
+/// all that is printed.
+pub fn by_figure(
+    figure: &Option<Source>,
+    in_words: bool,
+    printed: impl FnOnce(Option<&[u8]>) -> io::Result<Status>,
+) -> Status {
+    let printed = match figure {
+        None => printed(None),
+        Some(source) => {
+            let mut page = Page::of(source, in_words);
+            match page.figure() {
+                Some(figure) => printed(Some(&figure)),
+                None => page.printed(),
+            }
+        }
+    };
+    printed.unwrap_or_else(|trouble| standard::unwritten(&trouble))
+}
 
 pub struct Page<'a> {
     source: &'a Source,
@@ -34,23 +54,18 @@ impl<'a> Page<'a> {
         self.text.extend_from_slice(b" <==\n");
     }
 
-    /// The sheets of the job, or why there are none.
-    pub fn put_job(&mut self, figure: Option<&[u8]>) {
+    /// The text of the job, or why there is none.
+    pub fn put_job(&mut self, text: impl FnOnce(&[u8]) -> Result<Vec<u8>, Error>) {
         if let Some(job) = self.read("job") {
-            let sheets = if self.in_words {
-                calls::in_words(figure, &job)
-            } else {
-                calls::plain(figure, &job)
-            };
-            match sheets {
-                Ok(sheets) => self.text.extend(sheets),
+            match text(&job) {
+                Ok(text) => self.text.extend(text),
                 Err(error) => self.put_error(error, |refusal| trouble::in_job(refusal, &job)),
             }
         }
     }
 
     /// The figure, if it can be had and is in order; else the page says why not.
-    pub fn figure(&mut self) -> Option<Vec<u8>> {
+    fn figure(&mut self) -> Option<Vec<u8>> {
         let figure = self.read("figure")?;
         match calls::judged(&figure) {
             Ok(()) => Some(figure),

@@ -1,6 +1,6 @@
 //! The proved calls on a job, by a figure or without one.
 
-use leverbonnet::Error;
+use leverbonnet::{Error, Reduced};
 
 /// Whether the figure is in order: else its refusal. The proved call itself judges
 /// it, and no second reader. It is made on an empty job: refused for that job, it
@@ -22,12 +22,15 @@ pub fn plain(figure: Option<&[u8]>, job: &[u8]) -> Result<Vec<u8>, Error> {
 
 /// Each run in file order, with a blank line between two.
 pub fn in_words(figure: Option<&[u8]>, job: &[u8]) -> Result<Vec<u8>, Error> {
-    let reduced = |number| match figure {
-        Some(figure) => leverbonnet::reduce_run_by_figure(figure, job, number),
-        None => leverbonnet::reduce_run(job, number),
-    };
     let numbers = leverbonnet::run_numbers(job)?.into_iter();
-    let runs = numbers.map(|number| Ok(reduced(number)?.to_string()));
+    let runs = numbers.map(|number| Ok(reduced(figure, job, number)?.to_string()));
     let runs: Vec<String> = runs.collect::<Result<_, Error>>()?;
     Ok((runs.join("\n\n") + "\n").into_bytes())
+}
+
+pub fn reduced(figure: Option<&[u8]>, job: &[u8], run: u16) -> Result<Reduced, Error> {
+    match figure {
+        Some(figure) => leverbonnet::reduce_run_by_figure(figure, job, run),
+        None => leverbonnet::reduce_run(job, run),
+    }
 }
