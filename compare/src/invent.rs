@@ -7,6 +7,7 @@ mod certificates;
 pub mod figures;
 mod runs;
 
+use std::cmp::Ordering;
 use std::collections::BTreeSet;
 
 use independent::job::{Job, Run, Version, NO_LETTER};
@@ -91,8 +92,8 @@ fn numbers(random: &mut Random, count: usize) -> Vec<u16> {
 /// a limit: the first reading past it, or the one before that.
 fn tune_isokinetic(random: &mut Random, job: &mut Job) {
     let past: fn(Isokinetic) -> bool = match random.percent(50) {
-        true => |exact| !exact.is_below(9_000),
-        false => |exact| exact.is_above(11_000),
+        true => |exact| exact.against(9_000) != Ordering::Less,
+        false => |exact| exact.against(11_000) == Ordering::Greater,
     };
     let tuned = random.below(job.runs.len());
     let mut run = job.runs[tuned].clone();
