@@ -16,6 +16,10 @@ pub const INDEPENDENT: Side = Side {
     rect_layout: independent::rect_layout,
     sheet_text: independent::sheet_text,
     sheet_text_by_figure: independent::sheet_text_by_figure,
+    explain: independent::explain,
+    explain_by_figure: independent::explain_by_figure,
+    explain_text: independent::explain_text,
+    explain_text_by_figure: independent::explain_text_by_figure,
 };
 
 /// Where two that should give the same part, and what each gave.

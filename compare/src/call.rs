@@ -10,6 +10,9 @@ pub const LINE_LENGTH: usize = 9;
 pub const LINES_LENGTH: usize = LINE_COUNT * LINE_LENGTH;
 pub const FINDING_LENGTH: usize = 4;
 
+/// More than any explanation takes, also as text.
+pub const ROOMY_EXPLANATION: usize = 1_030;
+
 /// Added to the number of findings of an accepted run.
 const ACCEPTED: u32 = 65_536;
 
@@ -17,7 +20,7 @@ const ACCEPTED: u32 = 65_536;
 /// them.
 const GUARD: usize = 32;
 
-/// The eight calls of a side that is part of this program.
+/// The twelve calls of a side that is part of this program.
 pub struct Side {
     pub reduce: fn(&[u8], u16, &mut [u8], &mut [u8]) -> u64,
     pub reduce_by_figure: ReduceByFigure,
@@ -27,40 +30,82 @@ pub struct Side {
     pub rect_layout: fn(u16, u16, u16, &mut [u8]) -> u64,
     pub sheet_text: fn(&[u8], &mut [u8]) -> u64,
     pub sheet_text_by_figure: fn(&[u8], &[u8], &mut [u8]) -> u64,
+    pub explain: Explain,
+    pub explain_by_figure: ExplainByFigure,
+    pub explain_text: Explain,
+    pub explain_text_by_figure: ExplainByFigure,
 }
 
 pub type ReduceByFigure = fn(&[u8], &[u8], u16, &mut [u8], &mut [u8]) -> u64;
+/// With the run's number, the rule and the place.
+pub type Explain = fn(&[u8], u16, u16, u16, &mut [u8]) -> u64;
+pub type ExplainByFigure = fn(&[u8], &[u8], u16, u16, u16, &mut [u8]) -> u64;
+
+/// A finding that an explanation is asked for, whether the run has it or not.
+#[derive(Clone, Copy, Debug, PartialEq, Eq)]
+pub struct Asked {
+    pub run: u16,
+    pub rule: u16,
+    pub place: u16,
+}
 
 /// A job without a figure.
 pub fn only(job: &[u8]) -> Files<'_> {
     Files { figure: &[], job }
 }
 
-/// The two calls that there are without a figure and by one.
+/// The calls that there are without a figure and by one.
 #[derive(Clone, Copy)]
-pub struct Pair {
+pub struct Calls {
     /// By the run's number and the lengths of lines and findings.
     pub reduce: fn(u16, usize, usize) -> Call,
     /// By the output's length.
     pub text: fn(usize) -> Call,
+    /// By the output's length too.
+    pub explain: fn(Asked, usize) -> Call,
+    pub explain_text: fn(Asked, usize) -> Call,
 }
 
-pub const WITHOUT_FIGURE: Pair = Pair {
+pub const WITHOUT_FIGURE: Calls = Calls {
     reduce: |run, lines_len, findings_len| Call::Reduce {
         run,
         lines_len,
         findings_len,
     },
     text: |out_len| Call::SheetText { out_len },
+    explain: |Asked { run, rule, place }, out_len| Call::Explain {
+        run,
+        rule,
+        place,
+        out_len,
+    },
+    explain_text: |Asked { run, rule, place }, out_len| Call::ExplainText {
+        run,
+        rule,
+        place,
+        out_len,
+    },
 };
 
-pub const BY_FIGURE: Pair = Pair {
+pub const BY_FIGURE: Calls = Calls {
     reduce: |run, lines_len, findings_len| Call::ReduceByFigure {
         run,
         lines_len,
         findings_len,
     },
     text: |out_len| Call::SheetTextByFigure { out_len },
+    explain: |Asked { run, rule, place }, out_len| Call::ExplainByFigure {
+        run,
+        rule,
+        place,
+        out_len,
+    },
+    explain_text: |Asked { run, rule, place }, out_len| Call::ExplainTextByFigure {
+        run,
+        rule,
+        place,
+        out_len,
+    },
 };
 
 /// An answer, and every lent buffer with its guards as the call left it.
@@ -193,6 +238,30 @@ impl Trial {
             (Call::SheetTextByFigure { .. }, [out]) => {
                 (side.sheet_text_by_figure)(figure, job, out.middle())
             }
+            (
+                Call::Explain {
+                    run, rule, place, ..
+                },
+                [out],
+            ) => (side.explain)(job, run, rule, place, out.middle()),
+            (
+                Call::ExplainByFigure {
+                    run, rule, place, ..
+                },
+                [out],
+            ) => (side.explain_by_figure)(figure, job, run, rule, place, out.middle()),
+            (
+                Call::ExplainText {
+                    run, rule, place, ..
+                },
+                [out],
+            ) => (side.explain_text)(job, run, rule, place, out.middle()),
+            (
+                Call::ExplainTextByFigure {
+                    run, rule, place, ..
+                },
+                [out],
+            ) => (side.explain_text_by_figure)(figure, job, run, rule, place, out.middle()),
             _ => unreachable!("each call is lent its own outputs"),
         };
         Outcome { answer, lent }

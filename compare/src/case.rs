@@ -14,6 +14,13 @@ pub struct ByFigure {
     pub case: Case,
 }
 
+/// A case whose findings are to be explained, by a figure where there is one. What is
+/// expected of it goes for both files.
+pub struct ToExplain {
+    pub figure: Option<Vec<u8>>,
+    pub case: Case,
+}
+
 /// A job made from values, then changed byte by byte.
 #[derive(Clone)]
 pub struct Subject {
@@ -63,6 +70,20 @@ impl ByFigure {
             figure,
             case: Case::of_job(name, job, expected),
         }
+    }
+}
+
+impl From<Case> for ToExplain {
+    fn from(case: Case) -> Self {
+        let figure = None;
+        ToExplain { figure, case }
+    }
+}
+
+impl From<ByFigure> for ToExplain {
+    fn from(ByFigure { figure, case }: ByFigure) -> Self {
+        let figure = Some(figure);
+        ToExplain { figure, case }
     }
 }
 

@@ -1,6 +1,7 @@
 //! The cases, one file for each kind.
 
 pub mod damaged;
+pub mod explained;
 pub mod figures;
 pub mod heads;
 pub mod large;

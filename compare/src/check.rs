@@ -1,10 +1,12 @@
 //! Everything that is compared on one job: each call of the library in several
 //! ways, its runs with those of its twin in the other version, but for moved factors,
-//! or the program's printed sheet; and on one job by a figure.
+//! or the program's printed sheet; on one job by a figure; and its findings explained.
 
 mod by_figure;
+mod explained;
 
 pub use by_figure::by_figure;
+pub use explained::explained;
 
 use std::io::{self, Write};
 use std::process::Stdio;
@@ -13,7 +15,7 @@ use independent::job::{Job, Run, Version};
 use leverbonnet::pipe::{Call, CommandLine, Files};
 
 use crate::agreement::{agreed, agreed_as_expected, agreed_on_twin, Difference};
-use crate::call::{only, Outcome, Pair, FINDING_LENGTH, LINES_LENGTH, WITHOUT_FIGURE};
+use crate::call::{only, Calls, Outcome, FINDING_LENGTH, LINES_LENGTH, WITHOUT_FIGURE};
 use crate::case::Expected;
 use crate::proved::Proved;
 use crate::tally::Tally;
@@ -110,10 +112,10 @@ fn void_where_moved(job: &Job, run: &Run, reduced: &Outcome) -> Result<(), Diffe
 }
 
 /// The runs with room to spare.
-fn roomy(pair: Pair, runs: &[Run]) -> Vec<Call> {
+fn roomy(calls: Calls, runs: &[Run]) -> Vec<Call> {
     let numbers = runs.iter().map(|run| run.number);
     numbers
-        .map(|number| (pair.reduce)(number, ROOMY_LINES, ROOMY_FINDINGS))
+        .map(|number| (calls.reduce)(number, ROOMY_LINES, ROOMY_FINDINGS))
         .collect()
 }
 
@@ -123,15 +125,15 @@ fn absent(runs: &[Run]) -> u16 {
 }
 
 /// A run that is not there, or whose job is not read, with too short an output.
-fn unread(pair: Pair, run: u16) -> Call {
-    (pair.reduce)(run, 0, ROOMY_FINDINGS)
+fn unread(calls: Calls, run: u16) -> Call {
+    (calls.reduce)(run, 0, ROOMY_FINDINGS)
 }
 
 /// The text of that length with room to spare, in an output that just serves, in
 /// one a byte too short, and in none. Where it is refused with a number, no length is
 /// needed.
-fn texts(pair: Pair, refusal: u32, needed: usize) -> Vec<(Call, Expected)> {
-    let text = |out_len, expected| ((pair.text)(out_len), expected);
+fn texts(calls: Calls, refusal: u32, needed: usize) -> Vec<(Call, Expected)> {
+    let text = |out_len, expected| ((calls.text)(out_len), expected);
     match refusal {
         0 => vec![
             text(needed + TEXT_TO_SPARE, Expected::Read),

@@ -15,6 +15,7 @@ pub struct Extent {
     /// their limits with wrong counts of points all, or some.
     pub every_pairing: bool,
     pub figures: Figures,
+    pub explained: Explained,
     pub sheets: Sheets,
 }
 
@@ -34,6 +35,14 @@ pub struct Figures {
     /// One in so many changes of that figure, and of the longest.
     pub one_short_change_in: usize,
     pub one_change_in: usize,
+}
+
+/// The same for findings explained.
+pub struct Explained {
+    pub random_jobs: u64,
+    pub damaged_jobs: u64,
+    pub random_figures: u64,
+    pub spoilt_figures: u64,
 }
 
 /// The same for printed sheets, each of which starts a program.
@@ -64,6 +73,12 @@ pub const FULL: Extent = Extent {
         one_short_change_in: 1,
         one_change_in: 1,
     },
+    explained: Explained {
+        random_jobs: 1_000,
+        damaged_jobs: 3_000,
+        random_figures: 500,
+        spoilt_figures: 2_000,
+    },
     sheets: Sheets {
         damaged_jobs: 450,
         random_jobs: 300,
@@ -92,6 +107,12 @@ pub const LIGHT: Extent = Extent {
         every_value: false,
         one_short_change_in: 5,
         one_change_in: 31,
+    },
+    explained: Explained {
+        random_jobs: 100,
+        damaged_jobs: 300,
+        random_figures: 30,
+        spoilt_figures: 100,
     },
     sheets: Sheets {
         damaged_jobs: 48,

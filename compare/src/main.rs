@@ -2,7 +2,7 @@
 //! program, byte for byte, on jobs of either version, and fails where they disagree.
 //! A job without letters is compared with the same in the other version, too, but for
 //! its runs whose factor moved. The calls that take a figure are compared on jobs beside
-//! figures. What all of them reached is counted and shown; a count that must not be 0
+//! figures, and findings are explained with and without them. What all of them reached is counted and shown; a count that must not be 0
 //! fails it too.
 //!
 //!     --sheet COMMAND   the program `sheet` (or set SHEET)
@@ -22,6 +22,7 @@ mod call;
 mod case;
 mod cases;
 mod check;
+mod explanation;
 mod extent;
 mod fields;
 mod invent;

@@ -7,7 +7,7 @@ use leverbonnet::pipe::{Call, CommandLine, Files};
 
 use crate::agreement::{agreed, agreed_as_expected, Difference};
 use crate::call::only;
-use crate::case::{ByFigure, Case};
+use crate::case::{ByFigure, Case, ToExplain};
 use crate::cases::outputs::Outputs;
 use crate::check;
 use crate::proved::Proved;
@@ -57,6 +57,21 @@ impl Section {
             self.on_case(Some(&figure), &case, &|job, tally| {
                 let figure = &figure;
                 check::by_figure(proved, Files { figure, job }, tally)
+            })?;
+        }
+        Ok(self.done())
+    }
+
+    /// Compares how the library explains the findings of every case.
+    pub fn explained(
+        mut self,
+        proved: &Proved,
+        cases: impl Iterator<Item = ToExplain>,
+    ) -> Result<Tally, Failure> {
+        for ToExplain { figure, case } in cases {
+            let figure = figure.as_deref();
+            self.on_case(figure, &case, &|job, tally| {
+                check::explained(proved, figure, job, tally)
             })?;
         }
         Ok(self.done())

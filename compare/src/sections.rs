@@ -58,7 +58,8 @@ fn in_both<Cases: IntoIterator>(
     Version::ALL.into_iter().flat_map(cases)
 }
 
-/// The worked job and what it becomes by a byte, and random jobs that are read.
+/// The worked job and what it becomes by a byte, random jobs that are read, and findings
+/// explained.
 fn read_jobs(proved: &Proved) -> Result<Half, Failure> {
     let extent = proved.extent();
     let mut all = Tally::default();
@@ -74,7 +75,13 @@ fn read_jobs(proved: &Proved) -> Result<Half, Failure> {
     let random = Section::new("random jobs").library(proved, random)?;
     println!("{random}");
     all.add(&random);
-    let unreached = random.unreached_by_reading();
+
+    let explained = in_both(|version| cases::explained::cases(version, &extent.explained));
+    let explained = Section::new("findings explained").explained(proved, explained)?;
+    println!("{}", explained.explained_text());
+    all.add(&explained);
+    let mut unreached = random.unreached_by_reading();
+    unreached.extend(explained.unreached_by_explaining());
     Ok(Half { unreached, all })
 }
 
@@ -125,6 +132,16 @@ mod tests {
         let random = random.unwrap_or_else(|failure| panic!("{failure}"));
         println!("{random}");
         assert_eq!(random.unreached_by_reading(), Vec::<String>::new());
+    }
+
+    #[test]
+    fn the_fewest_findings_explained_reach_all_that_they_must() {
+        let proved = Proved::Linked(INDEPENDENT);
+        let explained = in_both(|version| cases::explained::cases(version, &LIGHT.explained));
+        let explained = Section::new("findings explained").explained(&proved, explained);
+        let explained = explained.unwrap_or_else(|failure| panic!("{failure}"));
+        println!("{}", explained.explained_text());
+        assert_eq!(explained.unreached_by_explaining(), Vec::<String>::new());
     }
 
     #[test]

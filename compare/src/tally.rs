@@ -3,6 +3,7 @@
 //! little is no proof.
 
 mod edges;
+mod explained;
 mod factors;
 mod figures;
 mod letters;
@@ -18,6 +19,8 @@ use crate::versions::InTwin;
 use edges::{Reduced, Refused, Times, EDGES};
 use figures::{RefusedFigure, RunByFigure};
 
+pub use explained::Explaining;
+
 /// The rules that there are: none has the number 13.
 const RULES: [usize; 19] = [
     1, 2, 3, 4, 5, 6, 7, 8, 9, 10, 11, 12, 14, 15, 16, 17, 18, 19, 20,
@@ -25,7 +28,7 @@ const RULES: [usize; 19] = [
 const LAST_RULE: usize = 20;
 
 /// The greatest number of a refusal; 12 and 13 are given by none.
-const LAST_REFUSAL: usize = 14;
+const LAST_REFUSAL: usize = 15;
 
 /// The lines that can be absent, each with the rules that are found exactly
 /// when one of its causes holds.
@@ -53,6 +56,7 @@ pub struct Tally {
     /// By line, then by the rule that was its only cause.
     absences: [[u64; LAST_RULE + 1]; LINE_COUNT + 1],
     edges: Edges,
+    explained: explained::Counts,
     refusals: [u64; LAST_REFUSAL + 1],
 }
 
@@ -173,6 +177,7 @@ impl Tally {
             add_each(mine, others);
         }
         add_each(&mut self.edges.0, &other.edges.0);
+        self.explained.add(&other.explained);
         add_each(&mut self.refusals, &other.refusals);
     }
 
@@ -216,7 +221,7 @@ impl Tally {
     pub fn unreached_by_figures(&self) -> Vec<String> {
         let edges = self.edges_of_figures().filter(|&(_, count)| count == 0);
         let edges = edges.map(|(edge, _)| edge.into());
-        let mut unreached = self.unreached_refusals([9, 10, LAST_REFUSAL].into_iter());
+        let mut unreached = self.unreached_refusals([9, 10, 14].into_iter());
         unreached.extend(edges);
         unreached
     }

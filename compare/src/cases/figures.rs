@@ -3,7 +3,7 @@
 //! damaged or not.
 
 mod changed;
-mod random;
+pub mod random;
 mod steps;
 
 use independent::figure::Figure;

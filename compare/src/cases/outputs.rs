@@ -1,13 +1,15 @@
 //! Outputs of every length about the need, for runs with no finding, with few
-//! and with many, without a figure and by one.
+//! and with many, and for findings explained, without a figure and by one.
 
 use std::iter;
 
 use independent::job::{Job, Shape, Version, WeighingKind};
 use independent::samples;
-use leverbonnet::pipe::Call;
+use leverbonnet::pipe::{Call, Files};
 
-use crate::call::{Pair, BY_FIGURE, FINDING_LENGTH, LINES_LENGTH, WITHOUT_FIGURE};
+use crate::agreement::INDEPENDENT;
+use crate::call::{Asked, Calls, Fill, Trial, BY_FIGURE, WITHOUT_FIGURE};
+use crate::call::{FINDING_LENGTH, LINES_LENGTH, ROOMY_EXPLANATION};
 use crate::case::{Case, Expected};
 use crate::versions::in_version;
 
@@ -15,6 +17,9 @@ const MOST_LINES: usize = LINES_LENGTH + 2;
 
 /// How far an output for a text is from its need, either way.
 const ABOUT_TEXT: usize = 40;
+
+/// How far an output for an explanation goes past its need.
+const PAST_EXPLANATION: usize = 5;
 
 /// A run and the number of its findings, to be reduced into many outputs.
 pub struct Outputs {
@@ -25,6 +30,8 @@ pub struct Outputs {
     findings: usize,
     /// Whether every length of one output meets every length of the other.
     crossed: bool,
+    /// Rule and place of those to be explained into many outputs too.
+    explained: &'static [(u16, u16)],
 }
 
 pub fn cases(version: Version) -> Vec<Outputs> {
@@ -34,6 +41,7 @@ pub fn cases(version: Version) -> Vec<Outputs> {
         run,
         findings,
         crossed,
+        explained: &[],
     };
     let by_figure = |name: &str, sample, findings| Outputs {
         figure: Some(samples::made_up().bytes()),
@@ -41,15 +49,46 @@ pub fn cases(version: Version) -> Vec<Outputs> {
     };
     let several = samples::several_runs;
     vec![
-        outputs("a run with one finding", samples::worked(), 7, 1, true),
+        Outputs {
+            explained: &[(11, 1)],
+            ..outputs("a run with one finding", samples::worked(), 7, 1, true)
+        },
         outputs("a run without findings", several(), 1, 0, true),
-        outputs("a run with seven findings", several(), 20, 7, true),
-        outputs("a run with the most findings", fullest(), 7, 98, false),
-        by_figure(
-            "a run with one finding by a figure",
-            samples::more_points(),
-            1,
-        ),
+        Outputs {
+            explained: &[(6, 0), (8, 0), (17, 2)],
+            ..outputs("a run with seven findings", several(), 20, 7, true)
+        },
+        Outputs {
+            explained: &[(1, 0), (8, 0), (9, 0), (20, 0)],
+            ..outputs("a run with the most findings", fullest(), 7, 98, false)
+        },
+        Outputs {
+            explained: &[(16, 0)],
+            ..outputs(
+                "a run past a limit of the percent isokinetic",
+                samples::percent_limits(),
+                4,
+                1,
+                false,
+            )
+        },
+        Outputs {
+            explained: &[(9, 0)],
+            ..by_figure(
+                "a run with one finding by a figure",
+                samples::more_points(),
+                1,
+            )
+        },
+        Outputs {
+            explained: &[(16, 0)],
+            run: 4,
+            ..by_figure(
+                "a run past a limit of the percent isokinetic by a figure",
+                samples::percent_limits(),
+                1,
+            )
+        },
         by_figure(
             "a run without findings by a figure",
             samples::fewer_points(),
@@ -63,10 +102,18 @@ impl Outputs {
     pub fn calls(&self) -> Vec<(Call, Expected)> {
         let mut calls = self.reduces();
         calls.extend(self.texts());
+        let explained = self.explained.iter();
+        calls.extend(explained.flat_map(|&(rule, place)| {
+            self.explains(Asked {
+                run: self.run,
+                rule,
+                place,
+            })
+        }));
         calls
     }
 
-    fn pair(&self) -> Pair {
+    fn made_by(&self) -> Calls {
         match self.figure {
             None => WITHOUT_FIGURE,
             Some(_) => BY_FIGURE,
@@ -86,7 +133,7 @@ impl Outputs {
         let mut calls = Vec::new();
         for lines_len in (0..=MOST_LINES).filter(|&length| self.crossed || is_telling(length)) {
             for findings_len in 0..=needed + FINDING_LENGTH + 1 {
-                let call = (self.pair().reduce)(self.run, lines_len, findings_len);
+                let call = (self.made_by().reduce)(self.run, lines_len, findings_len);
                 let too_short = lines_len < LINES_LENGTH || findings_len < needed;
                 calls.push((call, refused_if(too_short)));
             }
@@ -95,10 +142,35 @@ impl Outputs {
     }
 
     fn texts(&self) -> impl Iterator<Item = (Call, Expected)> {
-        let (pair, needed) = (self.pair(), self.text().len());
+        let (calls, needed) = (self.made_by(), self.text().len());
         let about = needed - ABOUT_TEXT..=needed + ABOUT_TEXT;
         let lengths = iter::once(0).chain(about);
-        lengths.map(move |out_len| ((pair.text)(out_len), refused_if(out_len < needed)))
+        lengths.map(move |out_len| ((calls.text)(out_len), refused_if(out_len < needed)))
+    }
+
+    /// The finding explained into every length from none on.
+    fn explains(&self, asked: Asked) -> Vec<(Call, Expected)> {
+        let Calls {
+            explain,
+            explain_text,
+            ..
+        } = self.made_by();
+        let into_many = |call: fn(Asked, usize) -> Call| {
+            let needed = self.needed(call(asked, ROOMY_EXPLANATION));
+            let lengths = 0..=needed + PAST_EXPLANATION;
+            lengths.map(move |out_len| (call(asked, out_len), refused_if(out_len < needed)))
+        };
+        into_many(explain).chain(into_many(explain_text)).collect()
+    }
+
+    /// What a call writes of its run, if there is room for it.
+    fn needed(&self, call: Call) -> usize {
+        let job = &self.case.subject.bytes();
+        let figure = self.figure.as_deref().unwrap_or(&[]);
+        let fill = Fill::Pattern;
+        let outcome = Trial { call, fill }.made(&INDEPENDENT, Files { figure, job });
+        assert_eq!(outcome.refusal(), 0, "{call:?}");
+        outcome.value() as usize
     }
 }
 
@@ -117,7 +189,7 @@ fn is_telling(lines_len: usize) -> bool {
 /// disturbed and with a wrong number of points (7 to 9), all 64 points short
 /// (10), all 16 segments leaking (11), nothing metered (12), all 8 weighings off
 /// (17) and of one kind (19), and a catch below 0 (20).
-fn fullest() -> Job {
+pub fn fullest() -> Job {
     let mut job = samples::longest();
     job.certificates.clear();
     job.runs.truncate(1);

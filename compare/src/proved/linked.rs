@@ -14,6 +14,10 @@ pub fn side() -> Option<Side> {
         rect_layout: linked::rect_layout,
         sheet_text: linked::sheet_text,
         sheet_text_by_figure: linked::sheet_text_by_figure,
+        explain: linked::explain,
+        explain_by_figure: linked::explain_by_figure,
+        explain_text: linked::explain_text,
+        explain_text_by_figure: linked::explain_text_by_figure,
     })
 }
 
