@@ -10,8 +10,9 @@ pub const LINE_LENGTH: usize = 9;
 pub const LINES_LENGTH: usize = LINE_COUNT * LINE_LENGTH;
 pub const FINDING_LENGTH: usize = 4;
 
-/// More than any explanation takes, also as text.
-pub const ROOMY_EXPLANATION: usize = 1_030;
+/// More than any explanation takes, and more than any that there is takes as text.
+pub const ROOMY_EXPLANATION: usize = 70 + 11;
+pub const ROOMY_EXPLANATION_TEXT: usize = 600;
 
 /// Added to the number of findings of an accepted run.
 const ACCEPTED: u32 = 65_536;

@@ -109,10 +109,10 @@ pub const LIGHT: Extent = Extent {
         one_change_in: 31,
     },
     explained: Explained {
-        random_jobs: 100,
-        damaged_jobs: 300,
-        random_figures: 30,
-        spoilt_figures: 100,
+        random_jobs: 60,
+        damaged_jobs: 150,
+        random_figures: 20,
+        spoilt_figures: 60,
     },
     sheets: Sheets {
         damaged_jobs: 48,

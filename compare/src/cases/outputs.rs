@@ -9,7 +9,7 @@ use leverbonnet::pipe::{Call, Files};
 
 use crate::agreement::INDEPENDENT;
 use crate::call::{Asked, Calls, Fill, Trial, BY_FIGURE, WITHOUT_FIGURE};
-use crate::call::{FINDING_LENGTH, LINES_LENGTH, ROOMY_EXPLANATION};
+use crate::call::{FINDING_LENGTH, LINES_LENGTH, ROOMY_EXPLANATION_TEXT};
 use crate::case::{Case, Expected};
 use crate::versions::in_version;
 
@@ -156,7 +156,7 @@ impl Outputs {
             ..
         } = self.made_by();
         let into_many = |call: fn(Asked, usize) -> Call| {
-            let needed = self.needed(call(asked, ROOMY_EXPLANATION));
+            let needed = self.needed(call(asked, ROOMY_EXPLANATION_TEXT));
             let lengths = 0..=needed + PAST_EXPLANATION;
             lengths.map(move |out_len| (call(asked, out_len), refused_if(out_len < needed)))
         };

@@ -1,6 +1,8 @@
 //! The findings of one job explained, by a figure or without one: each of them, into
 //! outputs about the need, and what is asked for though the run does not have it.
 
+use std::iter;
+
 use independent::figure::Figure;
 use independent::job::{Job, Run};
 use independent::{work, Finding, Refusal};
@@ -8,7 +10,8 @@ use leverbonnet::pipe::{Call, Files};
 
 use super::absent;
 use crate::agreement::{agreed_as_expected, Difference};
-use crate::call::{Asked, Calls, Outcome, BY_FIGURE, ROOMY_EXPLANATION, WITHOUT_FIGURE};
+use crate::call::{Asked, Calls, Outcome, BY_FIGURE, WITHOUT_FIGURE};
+use crate::call::{ROOMY_EXPLANATION, ROOMY_EXPLANATION_TEXT};
 use crate::case::Expected;
 use crate::explanation::Explanation;
 use crate::proved::Proved;
@@ -19,6 +22,13 @@ const TOGETHER: usize = 64;
 
 /// Rules that are about points, segments or weighings.
 const RULES_WITH_PLACES: [u16; 3] = [10, 11, 17];
+
+fn roomy(as_text: bool) -> usize {
+    match as_text {
+        true => ROOMY_EXPLANATION_TEXT,
+        false => ROOMY_EXPLANATION,
+    }
+}
 
 /// Compares both calls that explain a finding. Answers the number of the refusal, the
 /// figure's before the job's, or 0 if what is given is read.
@@ -156,12 +166,9 @@ impl OnJob<'_> {
             out_len,
             expected: Expected::Refused(10),
         };
-        asked.into_iter().flat_map(move |asked| {
-            [
-                refused(asked, true, 0),
-                refused(asked, false, ROOMY_EXPLANATION),
-            ]
-        })
+        asked
+            .into_iter()
+            .flat_map(move |asked| [refused(asked, true, 0), refused(asked, false, roomy(false))])
     }
 
     fn made(&self, makings: &[Making], tally: &mut Tally) -> Result<Vec<Outcome>, Difference> {
@@ -220,7 +227,7 @@ impl Making<'_> {
 
     /// Some of a run's, not always the same.
     fn is_to_be_tried_about_need(&self) -> bool {
-        self.asked.rule % 4 == self.asked.run % 4
+        self.asked.rule % 6 == self.asked.run % 6
     }
 
     /// Just long enough, a byte too short, and empty.
@@ -256,31 +263,29 @@ impl OfRun<'_> {
                     of_run: Some(self),
                     asked: self.asking(finding.rule.into(), finding.place),
                     as_text,
-                    out_len: ROOMY_EXPLANATION,
+                    out_len: roomy(as_text),
                     expected: Expected::Read,
                 })
             })
             .collect()
     }
 
-    /// Findings that the run does not have, by turns as bytes and as text, with room and
-    /// without.
+    /// Findings that the run does not have: rule 9, which a figure may make kept, and of
+    /// those beside its own one in three, not the same ones for the next run. By turns as
+    /// bytes and as text, with room and without.
     fn not_had(&self) -> Vec<Making<'_>> {
-        let not_had = self.beside_findings().into_iter().filter(|asked| {
-            let is_had = |finding: &Finding| {
-                (u16::from(finding.rule), finding.place) == (asked.rule, asked.place)
-            };
-            !self.findings.iter().any(is_had)
-        });
+        let beside = self.beside_findings().into_iter();
+        let some = beside.skip(usize::from(self.run.number % 3)).step_by(3);
+        let asked = iter::once(self.asking(9, 0)).chain(some);
         let by_turns = [
-            (false, ROOMY_EXPLANATION),
+            (false, roomy(false)),
             (true, 0),
-            (true, ROOMY_EXPLANATION),
+            (true, roomy(true)),
             (false, 0),
         ];
-        let by_turns = by_turns.into_iter().cycle();
-        not_had
-            .zip(by_turns)
+        asked
+            .filter(|&asked| !self.has(asked))
+            .zip(by_turns.into_iter().cycle())
             .map(|(asked, (as_text, out_len))| Making {
                 of_run: Some(self),
                 asked,
@@ -291,7 +296,12 @@ impl OfRun<'_> {
             .collect()
     }
 
-    /// Rules that there are not, every rule at a place or two, and beside the first and
+    fn has(&self, Asked { rule, place, .. }: Asked) -> bool {
+        let mut findings = self.findings.iter();
+        findings.any(|finding| (u16::from(finding.rule), finding.place) == (rule, place))
+    }
+
+    /// Rules that there are not, some rules at a place or two, and beside the first and
     /// the last finding those that could be taken for it.
     fn beside_findings(&self) -> Vec<Asked> {
         let mut asked: Vec<Asked> = [0, 13, 21, 255, u16::MAX]
@@ -302,7 +312,7 @@ impl OfRun<'_> {
         let ends = [self.findings.first(), self.findings.last()];
         for finding in ends.into_iter().flatten() {
             let (rule, place) = (u16::from(finding.rule), finding.place);
-            let other_rules = [0, 13, 255, 256 + rule, u16::MAX - 255 + rule];
+            let other_rules = [256 + rule, u16::MAX - 255 + rule];
             asked.extend(other_rules.map(|rule| self.asking(rule, place)));
             let other_places = [0, 1, place + 1, 256 + place, u16::MAX];
             asked.extend(other_places.map(|place| self.asking(rule, place)));
@@ -337,49 +347,39 @@ mod tests {
     use crate::cases;
     use crate::extent::LIGHT;
 
-    /// How many of the fewest jobs the independent program and another side part on.
-    fn parting(side: Side) -> usize {
+    /// Whether the independent program and another side part on some of the fewest jobs.
+    fn part(side: Side) -> bool {
         let other = Proved::Linked(side);
-        let cases = Version::ALL
+        let mut cases = Version::ALL
             .into_iter()
             .flat_map(|version| cases::explained::cases(version, &LIGHT.explained));
-        let parts = |ToExplain { figure, case }: &ToExplain| {
+        cases.any(|ToExplain { figure, case }| {
             let job = case.subject.bytes();
             explained(&other, figure.as_deref(), &job, &mut Tally::default()).is_err()
-        };
-        cases.filter(parts).count()
+        })
     }
 
-    fn parting_in_bytes(explain: Explain) -> usize {
-        parting(Side {
+    fn part_in_bytes(explain: Explain) -> bool {
+        part(Side {
             explain,
             ..INDEPENDENT
         })
     }
 
     #[test]
-    fn a_side_that_is_the_same_does_not_part() {
-        assert_eq!(parting(INDEPENDENT), 0);
-    }
-
-    #[test]
     fn a_side_that_passes_over_the_figure_parts() {
         let without: ExplainByFigure =
             |_, job, run, rule, place, out| explain(job, run, rule, place, out);
-        assert!(
-            parting(Side {
-                explain_by_figure: without,
-                ..INDEPENDENT
-            }) > 10
-        );
+        assert!(part(Side {
+            explain_by_figure: without,
+            ..INDEPENDENT
+        }));
         let without: ExplainByFigure =
             |_, job, run, rule, place, out| explain_text(job, run, rule, place, out);
-        assert!(
-            parting(Side {
-                explain_text_by_figure: without,
-                ..INDEPENDENT
-            }) > 10
-        );
+        assert!(part(Side {
+            explain_text_by_figure: without,
+            ..INDEPENDENT
+        }));
     }
 
     #[test]
@@ -388,60 +388,50 @@ mod tests {
             Ok(_) => explain_by_figure(figure, job, run, rule, place, out),
             Err(_) => explain(job, run, rule, place, out),
         };
-        assert!(
-            parting(Side {
-                explain_by_figure: job_first,
-                ..INDEPENDENT
-            }) > 0
-        );
+        assert!(part(Side {
+            explain_by_figure: job_first,
+            ..INDEPENDENT
+        }));
     }
 
     #[test]
     fn a_side_that_takes_a_byte_of_the_rule_or_the_place_parts() {
-        assert!(
-            parting_in_bytes(|job, run, rule, place, out| explain(
-                job,
-                run,
-                rule % 256,
-                place,
-                out
-            )) > 0
-        );
-        assert!(
-            parting_in_bytes(|job, run, rule, place, out| explain(
-                job,
-                run,
-                rule,
-                place % 256,
-                out
-            )) > 0
-        );
+        assert!(part_in_bytes(|job, run, rule, place, out| explain(
+            job,
+            run,
+            rule % 256,
+            place,
+            out
+        )));
+        assert!(part_in_bytes(|job, run, rule, place, out| explain(
+            job,
+            run,
+            rule,
+            place % 256,
+            out
+        )));
     }
 
     #[test]
     fn a_side_that_looks_at_the_output_first_parts() {
-        assert!(
-            parting_in_bytes(|job, run, rule, place, out| {
-                let answer = explain(job, run, rule, place, out);
-                match (answer >> 32, out.len()) {
-                    (15, 0) => 9 << 32,
-                    _ => answer,
-                }
-            }) > 0
-        );
+        assert!(part_in_bytes(|job, run, rule, place, out| {
+            let answer = explain(job, run, rule, place, out);
+            match (answer >> 32, out.len()) {
+                (15, 0) => 9 << 32,
+                _ => answer,
+            }
+        }));
     }
 
     #[test]
     fn a_side_that_looks_for_the_finding_first_parts() {
-        assert!(
-            parting_in_bytes(|job, run, rule, place, out| {
-                let answer = explain(job, run, rule, place, out);
-                match answer >> 32 {
-                    10 => 15 << 32,
-                    _ => answer,
-                }
-            }) > 0
-        );
+        assert!(part_in_bytes(|job, run, rule, place, out| {
+            let answer = explain(job, run, rule, place, out);
+            match answer >> 32 {
+                10 => 15 << 32,
+                _ => answer,
+            }
+        }));
     }
 
     /// The answer of the call with what it wrote altered.
@@ -459,7 +449,7 @@ mod tests {
     /// A side that alters what it writes.
     macro_rules! altering {
         ($alter:expr) => {
-            parting_in_bytes(|job, run, rule, place, out| {
+            part_in_bytes(|job, run, rule, place, out| {
                 altered((job, Asked { run, rule, place }, out), $alter)
             })
         };
@@ -471,7 +461,7 @@ mod tests {
             let last = out.last_mut().expect("it was written");
             *last = 0;
         });
-        assert!(past > 10);
+        assert!(past);
     }
 
     #[test]
@@ -479,7 +469,7 @@ mod tests {
         let without = altering!(|_, asked, out| if matches!(asked.rule, 15 | 16) {
             out[20..28].fill(0);
         });
-        assert!(without > 0);
+        assert!(without);
     }
 
     #[test]
@@ -487,7 +477,7 @@ mod tests {
         let numbered = altering!(|_, _, out| if out[0] == 1 {
             out[2] = 1;
         });
-        assert!(numbered > 0);
+        assert!(numbered);
     }
 
     #[test]
@@ -497,7 +487,7 @@ mod tests {
                 day[2] = u8::from(day[3..] != [0, 0]);
             }
         });
-        assert!(by_day > 0);
+        assert!(by_day);
     }
 
     /// The after certificate's day of rules 14 to 16, which version 2 does not tell.
@@ -511,6 +501,6 @@ mod tests {
             }
             explain(&job, run, rule, place, out)
         };
-        assert!(parting_in_bytes(as_version_1) > 0);
+        assert!(part_in_bytes(as_version_1));
     }
 }
