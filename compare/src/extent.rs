@@ -88,7 +88,7 @@ pub const FULL: Extent = Extent {
     },
 };
 
-/// Few enough for emulated calls, of which there are then some 550,000, and for
+/// Few enough for emulated calls, of which there are then some 620,000, and for
 /// emulated programs, of which each sheet starts one.
 pub const LIGHT: Extent = Extent {
     damaged_jobs: 3_000,

@@ -125,9 +125,10 @@ impl Section {
                     .map_err(|difference| shrunk(lent, &outputs.case, difference, &compared))?;
                 for (call, outcome) in calls.iter().zip(outcomes) {
                     match call {
-                        Call::SheetText { .. } | Call::SheetTextByFigure { .. } => {
-                            self.tally.count_text(&outcome)
-                        }
+                        Call::SheetText { .. }
+                        | Call::SheetTextByFigure { .. }
+                        | Call::ExplainText { .. }
+                        | Call::ExplainTextByFigure { .. } => self.tally.count_text(&outcome),
                         _ => self.tally.count(&outcome),
                     }
                 }

@@ -6,6 +6,14 @@ use independent::job::{Point, Run, Segment, Shape};
 /// The most that the points of a run may last together, in seconds.
 const LONGEST_RUN: u16 = 36_000;
 
+/// That of a stack with these sides: a round one has no second.
+pub fn shape(sides: [u16; 2]) -> Shape {
+    match sides[1] {
+        0 => Shape::Round,
+        _ => Shape::Rectangular,
+    }
+}
+
 /// Numerator and denominator, 0.1 in.
 pub fn diameter(run: &Run) -> (i64, i64) {
     let [first, second] = run.sides.map(i64::from);

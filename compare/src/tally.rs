@@ -48,7 +48,7 @@ const ABSENCES: [(usize, &[u8]); 9] = [
 pub struct Tally {
     pub jobs: u64,
     pub calls: u64,
-    /// Texts written, of jobs that are read.
+    /// Texts written, of jobs that are read and of findings explained.
     pub texts: u64,
     accepted: u64,
     void: u64,

@@ -9,8 +9,11 @@ const UNTOUCHED: u8 = 0xA5;
 /// A run, a rule and a place to ask for.
 type Asked = (u16, u16, u16);
 
+/// A call with all but its output.
+type Call<'a> = &'a dyn Fn(&mut [u8]) -> u64;
+
 /// The number and place with which both calls refuse, and touch no output of that length.
-fn refused_by(calls: [&dyn Fn(&mut [u8]) -> u64; 2], out_len: usize) -> (u64, u64) {
+fn refused_by(calls: [Call; 2], out_len: usize) -> (u64, u64) {
     let [answer, as_text] = calls.map(|call| {
         let mut out = vec![UNTOUCHED; out_len];
         let answer = call(&mut out);
@@ -27,7 +30,7 @@ fn refused_by_figure(
     (run, rule, place): Asked,
     out_len: usize,
 ) -> (u64, u64) {
-    let calls: [&dyn Fn(&mut [u8]) -> u64; 2] = [
+    let calls: [Call; 2] = [
         &|out| explain_by_figure(figure, job, run, rule, place, out),
         &|out| explain_text_by_figure(figure, job, run, rule, place, out),
     ];
@@ -158,18 +161,18 @@ fn a_finding_by_the_figure_alone_is_explained_by_it_alone() {
 #[test]
 fn an_output_of_the_exact_length_is_filled_and_a_longer_one_no_further() {
     let job = samples::worked().bytes();
-    let calls: [(fn(&[u8], u16, u16, u16, &mut [u8]) -> u64, usize); 2] =
-        [(explain, 36), (explain_text, TEXT.len())];
+    let calls: [(Call, usize); 2] = [
+        (&|out| explain(&job, 7, 11, 1, out), 36),
+        (&|out| explain_text(&job, 7, 11, 1, out), TEXT.len()),
+    ];
     for (call, needed) in calls {
         let mut exact = vec![UNTOUCHED; needed];
-        assert_eq!(call(&job, 7, 11, 1, &mut exact), needed as u64);
+        assert_eq!(call(&mut exact), needed as u64);
         let mut longer = vec![UNTOUCHED; needed + 3];
-        assert_eq!(call(&job, 7, 11, 1, &mut longer), needed as u64);
+        assert_eq!(call(&mut longer), needed as u64);
         assert_eq!(longer, [&exact[..], &[UNTOUCHED; 3]].concat());
         for out_len in 0..needed {
-            let mut out = vec![UNTOUCHED; out_len];
-            assert_eq!(call(&job, 7, 11, 1, &mut out), 9 << 32);
-            assert_eq!(out, vec![UNTOUCHED; out_len]);
+            assert_eq!(refused_by([call; 2], out_len), (9, 0));
         }
     }
     let mut text = vec![0; TEXT.len()];

@@ -74,7 +74,10 @@ impl Counts {
 
 impl Tally {
     pub fn count_explaining(&mut self, explaining: &Explaining, outcome: &Outcome) {
-        self.count(outcome);
+        match explaining.as_text {
+            true => self.count_text(outcome),
+            false => self.count(outcome),
+        }
         let made = Made {
             explaining,
             refusal: outcome.refusal(),
@@ -440,5 +443,103 @@ impl Made<'_> {
 
     fn is_no_run(&self) -> bool {
         self.refusal == 10
+    }
+}
+
+#[cfg(test)]
+mod tests {
+    use independent::samples;
+
+    use super::*;
+    use crate::agreement::INDEPENDENT;
+    use crate::check;
+    use crate::proved::Proved;
+
+    /// The edges with names from that on that the job comes to.
+    fn reached(figure: Option<&Figure>, job: &Job, names: &str) -> Vec<&'static str> {
+        let figure = figure.map(Figure::bytes);
+        let proved = Proved::Linked(INDEPENDENT);
+        let mut tally = Tally::default();
+        let compared = check::explained(&proved, figure.as_deref(), &job.bytes(), &mut tally);
+        assert!(matches!(compared, Ok(0)));
+        let edges = tally.explained.edges().filter(|&(_, count)| count > 0);
+        edges
+            .map(|(name, _)| name)
+            .filter(|name| name.starts_with(names))
+            .collect()
+    }
+
+    /// Just below 9,000 and just above 11,000.
+    #[test]
+    fn percents_are_told_apart_by_quotient_and_remainder() {
+        let mut job = samples::percent_limits();
+        assert_eq!(
+            reached(None, &job, "rule 1"),
+            [
+                "rule 15 in version 1, the meter certified after the run",
+                "rule 16 in version 1, the meter certified after the run",
+                "rule 15 with a remainder",
+                "rule 15 at 8999 with a remainder",
+                "rule 16 at its limit with a remainder",
+            ]
+        );
+        job.certificates.remove(1);
+        job.version = Version::Two;
+        assert_eq!(
+            reached(None, &job, "rule 16"),
+            [
+                "rule 16 in version 2, the meter not certified after the run",
+                "rule 16 at its limit with a remainder",
+            ]
+        );
+    }
+
+    /// The house rule is content with the points of the one sample and not of the other,
+    /// and the figure the other way round.
+    #[test]
+    fn a_least_number_is_told_from_that_of_the_house_rule() {
+        let figure = samples::made_up();
+        let conditions = [
+            "rule 9, round, by its first condition alone",
+            "rule 9, rectangular, by its first condition alone",
+        ];
+        let of_figure = [
+            "rule 9 against what a figure asks for, round",
+            "rule 9 against what a figure asks for, rectangular",
+        ];
+        let (more, fewer) = (samples::more_points(), samples::fewer_points());
+        assert_eq!(
+            reached(Some(&figure), &more, "rule 9"),
+            [&conditions[..], &of_figure].concat()
+        );
+        assert!(reached(None, &more, "rule 9").is_empty());
+        assert_eq!(reached(None, &fewer, "rule 9"), conditions);
+        assert!(reached(Some(&figure), &fewer, "rule 9").is_empty());
+        let kept = "not had: by a figure, though it is had without";
+        assert_eq!(reached(Some(&figure), &fewer, kept), [kept]);
+        assert!(reached(Some(&figure), &more, kept).is_empty());
+    }
+
+    /// The pitot is certified a day too late, and no other instrument at all.
+    #[test]
+    fn a_day_on_the_other_side_is_told_from_none() {
+        let mut job = samples::worked();
+        job.certificates = vec![job.certificates[2]];
+        job.certificates[0].day = 9_001;
+        assert_eq!(
+            reached(None, &job, "rule"),
+            [
+                "rule 1 with no day on either side",
+                "rule 2 with a day on the other side",
+                "rule 3 with no day on either side",
+                "rule 4 with no day on either side",
+            ]
+        );
+    }
+
+    #[test]
+    fn nothing_explained_has_reached_nothing() {
+        let unreached = Tally::default().unreached_by_explaining();
+        assert_eq!(unreached.len(), 12 + 8 * RULES.len() + EDGES.len());
     }
 }

@@ -1,12 +1,12 @@
 //! Stacks of either shape that break either condition of rules 8 and 9 or both, and
 //! stacks that are too narrow.
 
-use independent::job::{Job, Run, Shape};
+use independent::job::{Job, Run};
 
 use super::{with_runs, worked_run};
-use crate::site::give_points;
+use crate::site::{give_points, shape};
 
-/// Each of 24 in, the first two round.
+/// Both of 24 in.
 const ROUND: [u16; 2] = [240, 0];
 const RECTANGULAR: [u16; 2] = [200, 300];
 
@@ -59,10 +59,7 @@ fn stacks(sides: [u16; 2]) -> Vec<Run> {
 /// many points.
 fn stack(sides: [u16; 2], [next, last]: [u16; 2], points: u16) -> Run {
     let mut run = Run {
-        shape: match sides[1] {
-            0 => Shape::Round,
-            _ => Shape::Rectangular,
-        },
+        shape: shape(sides),
         sides,
         to_next_disturbance: next,
         from_last_disturbance: last,

@@ -2,13 +2,13 @@
 //! can ask for.
 
 use independent::figure::{Figure, Step, MOST_RECTANGULAR, MOST_ROUND, MOST_STEPS};
-use independent::job::{Job, Run, Shape, Version};
+use independent::job::{Job, Run, Version};
 use independent::{is_allowed, least_points, samples};
 use independent::{UNDISTURBED_FROM_LAST, UNDISTURBED_TO_NEXT};
 
 use super::both_read;
 use crate::case::ByFigure;
-use crate::site::{give_points, least_reaching};
+use crate::site::{give_points, least_reaching, shape};
 use crate::versions::in_version;
 
 const RUNS_A_JOB: usize = 16;
@@ -92,10 +92,7 @@ fn with_points(run: &Run, points: u16) -> Run {
 /// undisturbed site.
 fn stack(sides: [u16; 2]) -> Run {
     let mut run = samples::worked().runs.remove(0);
-    run.shape = match sides[1] {
-        0 => Shape::Round,
-        _ => Shape::Rectangular,
-    };
+    run.shape = shape(sides);
     run.sides = sides;
     run.from_last_disturbance = least_reaching(&run, UNDISTURBED_FROM_LAST) as u16 - 1;
     run.to_next_disturbance = least_reaching(&run, UNDISTURBED_TO_NEXT) as u16 - 1;
