@@ -4,6 +4,7 @@
 mod building;
 mod copy;
 mod drawings;
+mod explanations;
 mod figures;
 mod folder;
 mod in_words;

@@ -8,7 +8,7 @@ use crate::folder::{example, example_bytes};
 use crate::run::{ended, leverbonnet, shell, Ended};
 
 /// Everything that prints, with its status where it is written.
-const PRINTING: [(&[&str], i32); 15] = [
+const PRINTING: [(&[&str], i32); 21] = [
     (&["sheet", "examples/worked.job"], 0),
     (&["sheet", "examples/refused.job"], 2),
     (&["sheet", "--words", "examples/worked.job"], 0),
@@ -33,6 +33,23 @@ const PRINTING: [(&[&str], i32); 15] = [
         2,
     ),
     (&["sheet", "--words", "--figure", "examples/worked.job"], 2),
+    (&["explain", "examples/several-runs.job"], 0),
+    (&["explain", "examples/several-runs.job", "1"], 0),
+    (&["explain", "examples/several-runs.job", "4"], 2),
+    (
+        &["explain", "examples/several-runs.job", "20", "11", "2"],
+        2,
+    ),
+    (&["explain", "examples/refused.job"], 2),
+    (
+        &[
+            "explain",
+            "examples/wrong-points.job",
+            "--figure",
+            "examples/worked.job",
+        ],
+        2,
+    ),
     (&["layout", "round", "6", "240", "250"], 0),
     (&["layout", "round", "6", "240", "250", "--svg"], 0),
     (&["layout", "rect", "10", "400", "300"], 2),

@@ -12,7 +12,10 @@ fn asked(words: &[&str]) -> Ended {
 #[test]
 fn every_complaint_is_one_sentence_and_status_1() {
     for (words, sentence) in [
-        (&["frob"][..], "frob is no command: there are sheet, layout"),
+        (
+            &["frob"][..],
+            "frob is no command: there are sheet, explain, layout",
+        ),
         (&["--frob"], "--frob is no command"),
         (&[""], "'' is no command"),
         (
@@ -45,6 +48,39 @@ fn every_complaint_is_one_sentence_and_status_1() {
             "--words is no option of layout",
         ),
         (&["sheet", "examples/worked.job", "-x"], "-x is no option"),
+        (&["explain"], "the FILE of the job is missing"),
+        (
+            &["explain", "--figure", "examples/made-up.fig"],
+            "the FILE of the job is missing",
+        ),
+        (
+            &["explain", "examples/several-runs.job", "20", "11"],
+            "the PLACE of the finding is missing",
+        ),
+        (
+            &["explain", "examples/several-runs.job", "twenty"],
+            "the run twenty is no whole number up to 65535.",
+        ),
+        (
+            &["explain", "examples/several-runs.job", "65536"],
+            "the run 65536 is no whole number up to 65535.",
+        ),
+        (
+            &["explain", "examples/several-runs.job", "20", "11", "3rd"],
+            "the place 3rd is no whole number up to 65535.",
+        ),
+        (
+            &["explain", "examples/several-runs.job", "20", "11", "3", "4"],
+            "4 is one word too many",
+        ),
+        (
+            &["explain", "examples/several-runs.job", "--words"],
+            "--words is no option of explain, which knows --figure FIGURE and --help.",
+        ),
+        (
+            &["explain", "-", "--figure", "-"],
+            "standard input can be read once",
+        ),
         (&["layout"], "the shape is missing"),
         (&["layout", "round", "x"], "the diameter is missing"),
         (
@@ -82,7 +118,7 @@ fn every_complaint_is_one_sentence_and_status_1() {
 
 #[test]
 fn every_word_has_its_help() {
-    for word in ["sheet", "layout", "install", "test", "help"] {
+    for word in ["sheet", "explain", "layout", "install", "test", "help"] {
         let help = asked(&[word, "--help"]);
         assert_eq!((help.status, help.told.as_str()), (0, ""), "{help:?}");
         assert!(help.out.starts_with(&format!("leverbonnet {word}")));
@@ -98,6 +134,7 @@ fn without_a_word_the_help_lists_them_all() {
     assert_eq!((help.status, help.told.as_str()), (0, ""));
     for word in [
         "sheet",
+        "explain FILE",
         "layout round",
         "layout rect",
         "install",
