@@ -125,48 +125,20 @@ fn a_finding_alone_stands_below_the_line_of_its_run() {
         for (number, run) in runs(stored) {
             let (run_line, findings) = run.split_once('\n').expect("a line has an end");
             for finding in parts(findings, |line| !line.starts_with(' ')) {
-                let mut place = finding.split_whitespace().skip(1);
-                let [rule, place] = [(); 2].map(|_| place.next().expect("a finding has both"));
+                let line: Vec<&str> = finding.split_whitespace().collect();
+                let (rule, place) = (line[1], line[2]);
                 let asked = [words, &[&number, rule, place]].concat();
                 assert_printed(explain(&asked), &format!("{run_line}\n{finding}"));
                 found += 1;
             }
         }
     }
-    assert_eq!(found, 25 + 4);
+    assert_eq!(found, 27 + 4);
 }
 
 #[test]
 fn a_run_without_findings_is_its_line_alone() {
     assert_printed(explain(&[SEVERAL, "1"]), "RUN 1 ACCEPTED\n");
-}
-
-#[test]
-fn a_finding_alone_stands_below_the_line_of_its_run() {
-    let stored = example_text("made-up/wrong-points.explained");
-    for run in parts(&stored, "RUN ") {
-        let (run_line, findings) = run.split_once('\n').expect("a line has an end");
-        let number = run_line.split(' ').nth(1).expect("a run has a number");
-        let [mut found, mut compared] = [0, 0];
-        for finding in findings
-            .split_inclusive('\n')
-            .filter(|line| !line.starts_with(' '))
-        {
-            let words: Vec<&str> = finding.split_whitespace().collect();
-            let (rule, place) = (words[1], words[2]);
-            let asked = [WRONG, number, rule, place, "--figure", MADE_UP];
-            let printed = explain(&asked);
-            let start = format!("{run_line}\n{finding}");
-            assert!(printed.out.starts_with(&start), "{printed:?}");
-            assert!(
-                run.contains(&printed.out[run_line.len() + 1..]),
-                "{printed:?}"
-            );
-            compared += printed.out.lines().count() - 1;
-            found += 1;
-        }
-        assert!(found > 0 && compared == findings.lines().count(), "{run}");
-    }
 }
 
 #[test]
