@@ -1,6 +1,7 @@
 //! What README prints is what stands in the files: the two example programs, the
 //! worked job's sheet in words, the refused job's sentence; what is said of a factor
-//! that moved; and the figure, its steps, its bytes and what comes of it.
+//! that moved; findings explained, and the numbers worked by hand; and the figure, its
+//! steps, its bytes and what comes of it.
 
 use std::process::{self, Command};
 use std::{env, fs};
@@ -43,6 +44,71 @@ fn a_factor_that_moved_in_either_version() {
         place: 0,
     });
     assert_printed(&format!("{note}\n{fault}\n"), "");
+}
+
+const SEVERAL_EXPLAINED: &str = include_str!("../../examples/several-runs.explained");
+const WRONG_EXPLAINED: &str = include_str!("../../examples/made-up/wrong-points.explained");
+
+/// The run of that number in the text of a job explained.
+fn explained_run(text: &str, run: u16) -> String {
+    let mut runs = text.split("RUN ");
+    let start = format!("{run} ");
+    let run = runs.find(|part| part.starts_with(&start));
+    format!("RUN {}", run.expect("the job has that run"))
+}
+
+/// A finding of a run explained: its line, and those under it.
+fn explained_findings(run: &str) -> Vec<(&str, Vec<&str>)> {
+    let mut findings: Vec<(&str, Vec<&str>)> = vec![];
+    for line in run.lines().skip(1) {
+        match (line.starts_with(' '), findings.last_mut()) {
+            (true, Some((_, under))) => under.push(line),
+            _ => findings.push((line, vec![])),
+        }
+    }
+    findings
+}
+
+#[test]
+fn runs_explained() {
+    let asked = "$ ./leverbonnet explain examples";
+    let run = explained_run(SEVERAL_EXPLAINED, 20);
+    assert_printed(&format!("{asked}/several-runs.job 20\n{run}"), "");
+    let run = explained_run(SEVERAL_EXPLAINED, 3);
+    let (first, _) = run.split_once("NOTE 5 0\n").expect("it has three findings");
+    assert_printed(&format!("{asked}/several-runs.job 3 2 0\n{first}"), "");
+    let run = explained_run(WRONG_EXPLAINED, 9);
+    let words = "wrong-points.job 9 --figure examples/made-up.fig";
+    assert_printed(&format!("{asked}/{words}\n{run}"), "");
+}
+
+#[test]
+fn every_comparison_of_a_run_worked_by_hand() {
+    let run = explained_run(SEVERAL_EXPLAINED, 20);
+    for (finding, under) in explained_findings(&run) {
+        let (compared, _) = under[0]
+            .trim_start()
+            .split_once("  ")
+            .expect("it has words");
+        let compared = compared.strip_prefix("COMPARED ").expect("it compares");
+        let start = format!("\n| `{finding}` | {compared} | ");
+        assert!(README.contains(&start), "{start}");
+    }
+}
+
+#[test]
+fn quotients_with_their_remainders() {
+    let run = explained_run(SEVERAL_EXPLAINED, 999);
+    let below = explained_findings(&run)
+        .into_iter()
+        .find(|(finding, _)| *finding == "FAULT 15 0");
+    let (_, under) = below.expect("it is below 90 percent");
+    assert_printed(&format!("{}\n", under[0]), "");
+    let job = include_bytes!("../../examples/percent-limits.job");
+    let above = leverbonnet::explanation_text(job, 4, 16, 0).expect("it is above 110 percent");
+    let above = String::from_utf8(above).expect("it is text");
+    let line = above.lines().nth(1).expect("it compares");
+    assert_printed(&format!("{line}\n"), "");
 }
 
 #[test]
