@@ -212,19 +212,7 @@ pub fn sheet_text_by_figure(figure: &[u8], job: &[u8], out: &mut [u8]) -> u64 {
 /// bytes. Succeeds with how many are written; refusal 15 if the run does not have
 /// the finding. [`MOST_EXPLANATION`](crate::MOST_EXPLANATION) bytes always suffice.
 pub fn explain(job: &[u8], run: u16, rule: u16, place: u16, out: &mut [u8]) -> u64 {
-    // SAFETY: each pointer comes with the length of the slice it heads, the
-    // borrows keep the slices alive and apart, and the library keeps no pointer.
-    unsafe {
-        library::leverbonnet_explain(
-            job.as_ptr(),
-            job.len(),
-            run,
-            rule,
-            place,
-            out.as_mut_ptr(),
-            out.len(),
-        )
-    }
+    explained(library::leverbonnet_explain, job, run, rule, place, out)
 }
 
 /// As [`explain`], of the findings that the run has with the figure in place of the
@@ -237,41 +225,22 @@ pub fn explain_by_figure(
     place: u16,
     out: &mut [u8],
 ) -> u64 {
-    // SAFETY: each pointer comes with the length of the slice it heads, the
-    // borrows keep the slices alive and apart from what is written, and the
-    // library keeps no pointer.
-    unsafe {
-        library::leverbonnet_explain_by_figure(
-            figure.as_ptr(),
-            figure.len(),
-            job.as_ptr(),
-            job.len(),
-            run,
-            rule,
-            place,
-            out.as_mut_ptr(),
-            out.len(),
-        )
-    }
+    let call = library::leverbonnet_explain_by_figure;
+    explained_by_figure(call, figure, job, run, rule, place, out)
 }
 
 /// As [`explain`], as text: the finding's line of the sheet, and what explains it
 /// under it. [`MOST_EXPLANATION_TEXT`](crate::MOST_EXPLANATION_TEXT) bytes always
 /// suffice.
 pub fn explain_text(job: &[u8], run: u16, rule: u16, place: u16, out: &mut [u8]) -> u64 {
-    // SAFETY: each pointer comes with the length of the slice it heads, the
-    // borrows keep the slices alive and apart, and the library keeps no pointer.
-    unsafe {
-        library::leverbonnet_explain_text(
-            job.as_ptr(),
-            job.len(),
-            run,
-            rule,
-            place,
-            out.as_mut_ptr(),
-            out.len(),
-        )
-    }
+    explained(
+        library::leverbonnet_explain_text,
+        job,
+        run,
+        rule,
+        place,
+        out,
+    )
 }
 
 /// As [`explain_text`], of the findings that the run has with the figure in place of
@@ -284,11 +253,38 @@ pub fn explain_text_by_figure(
     place: u16,
     out: &mut [u8],
 ) -> u64 {
+    let call = library::leverbonnet_explain_text_by_figure;
+    explained_by_figure(call, figure, job, run, rule, place, out)
+}
+
+/// A call of the library that explains a finding.
+type Explains = unsafe extern "C" fn(*const u8, usize, u16, u16, u16, *mut u8, usize) -> u64;
+
+fn explained(call: Explains, job: &[u8], run: u16, rule: u16, place: u16, out: &mut [u8]) -> u64 {
+    let (start, length) = (job.as_ptr(), job.len());
+    // SAFETY: each pointer comes with the length of the slice it heads, the
+    // borrows keep the slices alive and apart, and the library keeps no pointer.
+    unsafe { call(start, length, run, rule, place, out.as_mut_ptr(), out.len()) }
+}
+
+/// One that takes a figure before the job.
+type ExplainsByFigure =
+    unsafe extern "C" fn(*const u8, usize, *const u8, usize, u16, u16, u16, *mut u8, usize) -> u64;
+
+fn explained_by_figure(
+    call: ExplainsByFigure,
+    figure: &[u8],
+    job: &[u8],
+    run: u16,
+    rule: u16,
+    place: u16,
+    out: &mut [u8],
+) -> u64 {
     // SAFETY: each pointer comes with the length of the slice it heads, the
     // borrows keep the slices alive and apart from what is written, and the
     // library keeps no pointer.
     unsafe {
-        library::leverbonnet_explain_text_by_figure(
+        call(
             figure.as_ptr(),
             figure.len(),
             job.as_ptr(),

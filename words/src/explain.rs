@@ -162,23 +162,16 @@ mod tests {
     }
 
     #[test]
-    fn a_file_is_needed() {
-        for given in [&[][..], &["--figure", "f"]] {
+    fn a_file_is_needed_and_with_a_rule_a_place() {
+        for (given, missing) in [
+            (&[][..], "the FILE of the job"),
+            (&["--figure", "f"], "the FILE of the job"),
+            (&["a", "7", "9"], "the PLACE of the finding"),
+            (&["a", "x", "y"], "the PLACE of the finding"),
+        ] {
             assert_eq!(
                 complaint(given),
-                "the FILE of the job is missing: call it as leverbonnet explain FILE \
-                 [RUN [RULE PLACE]] [--figure FIGURE]."
-            );
-        }
-    }
-
-    #[test]
-    fn a_rule_without_a_place_is_a_complaint() {
-        for given in [&["a", "7", "9"][..], &["a", "x", "y"]] {
-            assert_eq!(
-                complaint(given),
-                "the PLACE of the finding is missing: call it as leverbonnet explain FILE \
-                 [RUN [RULE PLACE]] [--figure FIGURE]."
+                format!("{missing} is missing: call it as leverbonnet {USAGE}.")
             );
         }
     }
