@@ -35,7 +35,7 @@ pub use layout::{rect_distances, round_distances};
 pub use lines::{Isokinetic, Lines, LINE_COUNT};
 pub use points::{is_allowed, is_undisturbed, least_points};
 pub use points::{UNDISTURBED_FROM_LAST, UNDISTURBED_TO_NEXT};
-pub use print::{sheet, sheet_by_figure};
+pub use print::{explanations, explanations_by_figure, sheet, sheet_by_figure};
 pub use read::read;
 pub use worked::{work, Worked};
 

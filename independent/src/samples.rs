@@ -1,9 +1,9 @@
 //! Jobs worth showing: the worked job of docs/RULES.md, one of several runs, one at the
 //! limits of the percent isokinetic, one at those of a weighing, one with a rebuilt meter
 //! and the same without its letter, one with factors that moved in each version, one with
-//! fewer points than the house rule wants and one with just as many, one that is refused,
-//! and the longest that a file of each version can hold. And a figure, whose steps are
-//! made up and stand for nobody's.
+//! fewer points than the house rule wants and one with just as many, one with numbers of
+//! points that a figure does not take, one that is refused, and the longest that a file of
+//! each version can hold. And a figure, whose steps are made up and stand for nobody's.
 
 use crate::figure::{Figure, Step};
 use crate::job::*;
@@ -31,11 +31,13 @@ pub type Named = (&'static str, fn() -> Job);
 
 const FEWER_POINTS: Named = ("fewer-points", fewer_points);
 const MORE_POINTS: Named = ("more-points", more_points);
+const SEVERAL_RUNS: Named = ("several-runs", several_runs);
+const WRONG_POINTS: Named = ("wrong-points", wrong_points);
 
 /// The samples that stand among the examples with their sheets.
-pub const WITH_SHEETS: [Named; 11] = [
+pub const WITH_SHEETS: [Named; 12] = [
     ("worked", worked),
-    ("several-runs", several_runs),
+    SEVERAL_RUNS,
     ("percent-limits", percent_limits),
     ("weighing-limits", weighing_limits),
     ("rebuilt-meter", rebuilt_meter),
@@ -44,8 +46,12 @@ pub const WITH_SHEETS: [Named; 11] = [
     ("moved-factor-version-2", moved_factor_version_2),
     FEWER_POINTS,
     MORE_POINTS,
+    WRONG_POINTS,
     ("refused", refused),
 ];
+
+/// Those whose findings stand there explained.
+pub const EXPLAINED: [Named; 1] = [SEVERAL_RUNS];
 
 /// Those that stand there without.
 pub const WITHOUT: [Named; 2] = [
@@ -53,11 +59,21 @@ pub const WITHOUT: [Named; 2] = [
     ("longest-version-2", longest_version_2),
 ];
 
-/// A figure by its name there, and the samples whose sheets by it stand in the folder of
-/// that name.
-pub type NamedFigure = (&'static str, fn() -> Figure, [Named; 2]);
+/// A figure by its name there, and the samples that stand in the folder of that name: those
+/// with their sheets by it, and those with their findings explained.
+pub struct NamedFigure {
+    pub name: &'static str,
+    pub figure: fn() -> Figure,
+    pub with_sheets: [Named; 3],
+    pub explained: [Named; 1],
+}
 
-pub const FIGURES: [NamedFigure; 1] = [("made-up", made_up, [FEWER_POINTS, MORE_POINTS])];
+pub const FIGURES: [NamedFigure; 1] = [NamedFigure {
+    name: "made-up",
+    figure: made_up,
+    with_sheets: [FEWER_POINTS, MORE_POINTS, WRONG_POINTS],
+    explained: [WRONG_POINTS],
+}];
 
 /// The job whose whole sheet the rules print: one accepted run with one note.
 pub fn worked() -> Job {
@@ -480,6 +496,36 @@ pub fn more_points() -> Job {
         traversed(8, Shape::Rectangular, [300, 600], 25),
     ];
     job
+}
+
+/// Three runs with too few points for `made_up`, with a number that no rectangle has, and
+/// with both troubles of a round stack; and one with points enough, which drew too much
+/// through a meter that was rebuilt.
+pub fn wrong_points() -> Job {
+    let rebuilt = Instrument {
+        letter: b'A',
+        ..ABC_METER
+    };
+    let drew_too_much = Run {
+        meter: rebuilt,
+        last_reading: 145_000,
+        ..traversed(10, Shape::Round, [300, 1_440], 16)
+    };
+    Job {
+        version: Version::Two,
+        certificates: beside_the_meters(&[
+            meter(ABC_METER, CALIBRATED, 10_000),
+            meter(ABC_METER, RECALIBRATED, 9_800),
+            meter(rebuilt, 8_995, 9_900),
+            meter(rebuilt, RECALIBRATED, 9_900),
+        ]),
+        runs: vec![
+            traversed(7, Shape::Round, [180, 1_920], 24),
+            traversed(8, Shape::Rectangular, [300, 1_800], 24),
+            traversed(9, Shape::Round, [180, 1_920], 18),
+            drew_too_much,
+        ],
+    }
 }
 
 /// The worked run, tight, in a stack of that shape and of 24 in, with the next and the

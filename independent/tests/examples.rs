@@ -3,7 +3,7 @@
 use std::fs;
 use std::path::Path;
 
-use independent::{samples, sheet, sheet_by_figure};
+use independent::{explanations, explanations_by_figure, samples, sheet, sheet_by_figure};
 
 fn example(file: &str) -> Vec<u8> {
     let folder = Path::new(concat!(env!("CARGO_MANIFEST_DIR"), "/../examples"));
@@ -28,14 +28,28 @@ fn every_sheet_is_current() {
 }
 
 #[test]
-fn every_figure_and_every_sheet_by_it_is_current() {
-    for (name, figure, jobs) in samples::FIGURES {
-        let figure = figure().bytes();
-        let file = format!("{name}.fig");
+fn every_explanation_is_current() {
+    for (name, sample) in samples::EXPLAINED {
+        let file = format!("{name}.explained");
+        let text = explanations(&sample().bytes());
+        assert!(text == example(&file), "{file} is out of date");
+    }
+}
+
+#[test]
+fn every_figure_and_what_stands_by_it_is_current() {
+    for named in samples::FIGURES {
+        let figure = (named.figure)().bytes();
+        let file = format!("{}.fig", named.name);
         assert!(figure == example(&file), "{file} is out of date");
-        for (job, sample) in jobs {
-            let file = format!("{name}/{job}.txt");
+        for (job, sample) in named.with_sheets {
+            let file = format!("{}/{job}.txt", named.name);
             let text = sheet_by_figure(&figure, &sample().bytes());
+            assert!(text == example(&file), "{file} is out of date");
+        }
+        for (job, sample) in named.explained {
+            let file = format!("{}/{job}.explained", named.name);
+            let text = explanations_by_figure(&figure, &sample().bytes());
             assert!(text == example(&file), "{file} is out of date");
         }
     }
