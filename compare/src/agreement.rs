@@ -22,6 +22,9 @@ pub const INDEPENDENT: Side = Side {
     explain_text_by_figure: independent::explain_text_by_figure,
 };
 
+/// How many calls on one job, or on none, are compared at once where there may be many.
+pub const TOGETHER: usize = 64;
+
 /// Where two that should give the same part, and what each gave.
 pub struct Difference {
     pub what: String,

@@ -1,10 +1,25 @@
-//! An explanation as the bytes tell it, and whether it explains anything.
+//! An explanation as the bytes tell it, and whether it explains anything; and the places
+//! that a rule has in a run.
 
 use std::cmp::Ordering;
+
+use independent::job::Run;
 
 const COUNTS_LENGTH: usize = 2;
 const CONDITION_LENGTH: usize = 34;
 const DAY_LENGTH: usize = 5;
+
+/// How many points, segments or weighings the rule is about; none for one about the whole
+/// run.
+pub fn places(run: &Run, rule: u16) -> Option<u16> {
+    let records = match rule {
+        10 => run.points.len(),
+        11 => run.segments.len(),
+        17 => run.weighings.len(),
+        _ => return None,
+    };
+    Some(records as u16)
+}
 
 pub struct Explanation {
     pub conditions: Vec<Condition>,

@@ -5,7 +5,7 @@ use std::time::Instant;
 
 use leverbonnet::pipe::{Call, CommandLine, Files};
 
-use crate::agreement::{agreed, agreed_as_expected, Difference};
+use crate::agreement::{agreed, agreed_as_expected, Difference, TOGETHER};
 use crate::call::only;
 use crate::case::{ByFigure, Case, ToExplain};
 use crate::cases::outputs::Outputs;
@@ -14,9 +14,6 @@ use crate::proved::Proved;
 use crate::report::Failure;
 use crate::shrink::smallest;
 use crate::tally::Tally;
-
-/// How many calls on one job, or on none, are compared at once.
-const TOGETHER: usize = 64;
 
 pub struct Section {
     name: &'static str,

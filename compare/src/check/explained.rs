@@ -1,34 +1,19 @@
-//! The findings of one job explained, by a figure or without one: each of them, into
-//! outputs about the need, and what is asked for though the run does not have it.
+//! The findings of one job explained, by a figure or without one.
 
-use std::iter;
+mod asking;
 
 use independent::figure::Figure;
-use independent::job::{Job, Run};
-use independent::{work, Finding, Refusal};
+use independent::job::Job;
+use independent::{work, Refusal};
 use leverbonnet::pipe::{Call, Files};
 
-use super::absent;
-use crate::agreement::{agreed_as_expected, Difference};
-use crate::call::{Asked, Calls, Outcome, BY_FIGURE, WITHOUT_FIGURE};
-use crate::call::{ROOMY_EXPLANATION, ROOMY_EXPLANATION_TEXT};
+use self::asking::{no_such_runs, Asking, OfRun};
+use crate::agreement::{agreed_as_expected, Difference, TOGETHER};
+use crate::call::{Asked, Calls, Outcome, BY_FIGURE, ROOMY_EXPLANATION, WITHOUT_FIGURE};
 use crate::case::Expected;
 use crate::explanation::Explanation;
 use crate::proved::Proved;
 use crate::tally::{Explaining, Tally};
-
-/// How many calls are compared at once.
-const TOGETHER: usize = 64;
-
-/// Rules that are about points, segments or weighings.
-const RULES_WITH_PLACES: [u16; 3] = [10, 11, 17];
-
-fn roomy(as_text: bool) -> usize {
-    match as_text {
-        true => ROOMY_EXPLANATION_TEXT,
-        false => ROOMY_EXPLANATION,
-    }
-}
 
 /// Compares both calls that explain a finding. Answers the number of the refusal, the
 /// figure's before the job's, or 0 if what is given is read.
@@ -110,228 +95,73 @@ struct OnJob<'a> {
     job: &'a Job,
 }
 
-/// A call to be made, and what it is for.
-#[derive(Clone, Copy)]
-struct Making<'a> {
-    of_run: Option<&'a OfRun<'a>>,
-    asked: Asked,
-    as_text: bool,
-    out_len: usize,
-    expected: Expected,
-}
-
-/// A run and what it is found to break.
-struct OfRun<'a> {
-    run: &'a Run,
-    findings: Vec<Finding>,
-}
-
 impl OnJob<'_> {
     fn compared(&self, tally: &mut Tally) -> Result<(), Difference> {
-        let of_runs: Vec<OfRun> = self
-            .job
-            .runs
-            .iter()
+        let runs = self.job.runs.iter();
+        let of_runs: Vec<OfRun> = runs
             .map(|run| OfRun {
                 run,
                 findings: work(self.figure, self.job, run).findings,
             })
             .collect();
-        let with_room: Vec<Making> = of_runs.iter().flat_map(OfRun::with_room).collect();
+        let with_room: Vec<Asking> = of_runs.iter().flat_map(OfRun::with_room).collect();
         let outcomes = self.made(&with_room, tally)?;
-        let mut others: Vec<Making> = with_room
+        let needs = outcomes.iter().map(|outcome| outcome.value() as usize);
+        let mut others: Vec<Asking> = with_room
             .iter()
-            .zip(&outcomes)
-            .filter(|(making, _)| making.is_to_be_tried_about_need())
-            .flat_map(|(making, outcome)| making.about_need(outcome.value() as usize))
+            .zip(needs)
+            .filter(|(asking, _)| asking.is_tried_about_need())
+            .flat_map(|(asking, needed)| asking.about_need(needed))
             .collect();
         others.extend(of_runs.iter().flat_map(OfRun::not_had));
-        others.extend(self.no_such_runs());
+        others.extend(no_such_runs(&self.job.runs));
         self.made(&others, tally)?;
         Ok(())
     }
 
-    /// Runs that the job does not have, whatever else is asked for.
-    fn no_such_runs(&self) -> impl Iterator<Item = Making<'_>> {
-        let runs = [0, absent(&self.job.runs), u16::MAX];
-        let asked = runs.map(|run| Asked {
-            run,
-            rule: 11,
-            place: 1,
-        });
-        let refused = |asked, as_text, out_len| Making {
-            of_run: None,
-            asked,
-            as_text,
-            out_len,
-            expected: Expected::Refused(10),
-        };
-        asked
-            .into_iter()
-            .flat_map(move |asked| [refused(asked, true, 0), refused(asked, false, roomy(false))])
-    }
-
-    fn made(&self, makings: &[Making], tally: &mut Tally) -> Result<Vec<Outcome>, Difference> {
-        let mut all = Vec::with_capacity(makings.len());
-        for some in makings.chunks(TOGETHER) {
+    fn made(&self, all: &[Asking], tally: &mut Tally) -> Result<Vec<Outcome>, Difference> {
+        let mut made = Vec::with_capacity(all.len());
+        for some in all.chunks(TOGETHER) {
             let calls: Vec<(Call, Expected)> = some
                 .iter()
-                .map(|making| (making.call(self.calls), making.expected))
+                .map(|asking| (asking.call(self.calls), asking.expected))
                 .collect();
             let outcomes = agreed_as_expected(self.proved, &calls, self.files)?;
-            for (making, outcome) in some.iter().zip(&outcomes) {
-                self.counted(making, outcome, tally)?;
+            for (asking, outcome) in some.iter().zip(&outcomes) {
+                self.counted(asking, outcome, tally)?;
             }
-            all.extend(outcomes);
+            made.extend(outcomes);
         }
-        Ok(all)
+        Ok(made)
     }
 
-    /// Also looks at an explanation with the rules' own eyes, whatever both sides agree on.
+    /// Also reads an explanation as a reviewer would, whatever both sides agree on.
     fn counted(
         &self,
-        making: &Making,
+        asking: &Asking,
         outcome: &Outcome,
         tally: &mut Tally,
     ) -> Result<(), Difference> {
-        let is_bytes = outcome.refusal() == 0 && !making.as_text;
+        let is_bytes = outcome.refusal() == 0 && !asking.as_text;
         let explanation = is_bytes.then(|| Explanation::read(outcome.output(0)));
         if let Some(trouble) = explanation.as_ref().and_then(Explanation::trouble) {
-            let what = format!("{:?}: {trouble}", making.call(self.calls));
+            let what = format!("{:?}: {trouble}", asking.call(self.calls));
             return Err(Difference::of_sides(what, &outcome.to_string(), "the same"));
         }
         tally.count_explaining(
             &Explaining {
                 job: self.job,
                 figure: self.figure,
-                run: making.of_run.map(|of_run| of_run.run),
-                findings: making.of_run.map_or(&[][..], |of_run| &of_run.findings),
-                asked: making.asked,
-                as_text: making.as_text,
-                out_len: making.out_len,
+                run: asking.of_run.map(|of_run| of_run.run),
+                findings: asking.of_run.map_or(&[][..], |of_run| &of_run.findings),
+                asked: asking.asked,
+                as_text: asking.as_text,
+                out_len: asking.out_len,
                 explanation,
             },
             outcome,
         );
         Ok(())
-    }
-}
-
-impl Making<'_> {
-    fn call(&self, calls: Calls) -> Call {
-        match self.as_text {
-            true => (calls.explain_text)(self.asked, self.out_len),
-            false => (calls.explain)(self.asked, self.out_len),
-        }
-    }
-
-    /// Some of a run's, not always the same.
-    fn is_to_be_tried_about_need(&self) -> bool {
-        self.asked.rule % 6 == self.asked.run % 6
-    }
-
-    /// Just long enough, a byte too short, and empty.
-    fn about_need(&self, needed: usize) -> [Self; 3] {
-        let lent = |out_len, expected| Making {
-            out_len,
-            expected,
-            ..*self
-        };
-        [
-            lent(needed, Expected::Read),
-            lent(needed - 1, Expected::Refused(9)),
-            lent(0, Expected::Refused(9)),
-        ]
-    }
-}
-
-impl OfRun<'_> {
-    fn asking(&self, rule: u16, place: u16) -> Asked {
-        Asked {
-            run: self.run.number,
-            rule,
-            place,
-        }
-    }
-
-    /// Every finding, with room to spare.
-    fn with_room(&self) -> Vec<Making<'_>> {
-        let findings = self.findings.iter();
-        findings
-            .flat_map(|finding| {
-                [false, true].map(|as_text| Making {
-                    of_run: Some(self),
-                    asked: self.asking(finding.rule.into(), finding.place),
-                    as_text,
-                    out_len: roomy(as_text),
-                    expected: Expected::Read,
-                })
-            })
-            .collect()
-    }
-
-    /// Findings that the run does not have: rule 9, which a figure may make kept, and of
-    /// those beside its own one in three, not the same ones for the next run. By turns as
-    /// bytes and as text, with room and without.
-    fn not_had(&self) -> Vec<Making<'_>> {
-        let beside = self.beside_findings().into_iter();
-        let some = beside.skip(usize::from(self.run.number % 3)).step_by(3);
-        let asked = iter::once(self.asking(9, 0)).chain(some);
-        let by_turns = [
-            (false, roomy(false)),
-            (true, 0),
-            (true, roomy(true)),
-            (false, 0),
-        ];
-        asked
-            .filter(|&asked| !self.has(asked))
-            .zip(by_turns.into_iter().cycle())
-            .map(|(asked, (as_text, out_len))| Making {
-                of_run: Some(self),
-                asked,
-                as_text,
-                out_len,
-                expected: Expected::Refused(15),
-            })
-            .collect()
-    }
-
-    fn has(&self, Asked { rule, place, .. }: Asked) -> bool {
-        let mut findings = self.findings.iter();
-        findings.any(|finding| (u16::from(finding.rule), finding.place) == (rule, place))
-    }
-
-    /// Rules that there are not, some rules at a place or two, and beside the first and
-    /// the last finding those that could be taken for it.
-    fn beside_findings(&self) -> Vec<Asked> {
-        let mut asked: Vec<Asked> = [0, 13, 21, 255, u16::MAX]
-            .map(|rule| self.asking(rule, 0))
-            .into();
-        let kept = (1..=20).filter(|rule| rule % 5 == self.run.number % 5);
-        asked.extend(kept.flat_map(|rule| [0, 1].map(|place| self.asking(rule, place))));
-        let ends = [self.findings.first(), self.findings.last()];
-        for finding in ends.into_iter().flatten() {
-            let (rule, place) = (u16::from(finding.rule), finding.place);
-            let other_rules = [256 + rule, u16::MAX - 255 + rule];
-            asked.extend(other_rules.map(|rule| self.asking(rule, place)));
-            let other_places = [0, 1, place + 1, 256 + place, u16::MAX];
-            asked.extend(other_places.map(|place| self.asking(rule, place)));
-        }
-        for rule in RULES_WITH_PLACES {
-            asked.push(self.asking(rule, 0));
-            asked.push(self.asking(rule, self.records(rule) + 1));
-        }
-        asked
-    }
-
-    /// How many points, segments or weighings the rule is about.
-    fn records(&self, rule: u16) -> u16 {
-        let records = match rule {
-            10 => self.run.points.len(),
-            11 => self.run.segments.len(),
-            _ => self.run.weighings.len(),
-        };
-        records as u16
     }
 }
 

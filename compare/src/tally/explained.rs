@@ -9,7 +9,7 @@ use independent::{is_undisturbed, least_points, Chosen, Finding};
 
 use super::{add_each, Tally, LAST_RULE, RULES};
 use crate::call::{Asked, Outcome};
-use crate::explanation::{Condition, Explanation};
+use crate::explanation::{places, Condition, Explanation};
 
 /// A call on a job that is read.
 pub struct Explaining<'a> {
@@ -397,26 +397,19 @@ impl Made<'_> {
         matches!(less, (Some(rule), Some(place)) if self.breaks(rule, place))
     }
 
-    /// How many points, segments or weighings the rule is about; none for one about the
-    /// whole run.
-    fn records(&self) -> Option<usize> {
-        let run = self.explaining.run?;
-        match self.asked().rule {
-            10 => Some(run.points.len()),
-            11 => Some(run.segments.len()),
-            17 => Some(run.weighings.len()),
-            _ => None,
-        }
+    /// Of the rule in the run.
+    fn places(&self) -> Option<u16> {
+        places(self.explaining.run?, self.asked().rule)
     }
 
     fn is_place_0_of_broken(&self) -> bool {
         let Asked { rule, place, .. } = self.asked();
-        place == 0 && self.records().is_some() && self.breaks_anywhere(rule)
+        place == 0 && self.places().is_some() && self.breaks_anywhere(rule)
     }
 
     fn is_past_the_last(&self) -> bool {
-        let place = usize::from(self.asked().place);
-        self.records().map_or(false, |records| place == records + 1)
+        let place = self.asked().place;
+        self.places().map_or(false, |places| place == places + 1)
     }
 
     fn is_place_of_whole_run(&self) -> bool {
@@ -425,10 +418,8 @@ impl Made<'_> {
 
     fn is_kept_place(&self) -> bool {
         let Asked { rule, place, .. } = self.asked();
-        let within = self
-            .records()
-            .map_or(false, |records| (1..=records).contains(&place.into()));
-        within && self.breaks_anywhere(rule)
+        let places = self.places().unwrap_or(0);
+        (1..=places).contains(&place) && self.breaks_anywhere(rule)
     }
 
     /// By the house rule the run has too few points, and by the figure it has enough.
