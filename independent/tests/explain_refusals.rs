@@ -30,21 +30,17 @@ fn refused_by_figure(
     (run, rule, place): Asked,
     out_len: usize,
 ) -> (u64, u64) {
-    let calls: [Call; 2] = [
-        &|out| explain_by_figure(figure, job, run, rule, place, out),
-        &|out| explain_text_by_figure(figure, job, run, rule, place, out),
-    ];
-    refused_by(calls, out_len)
+    let as_bytes: Call = &|out| explain_by_figure(figure, job, run, rule, place, out);
+    let as_text: Call = &|out| explain_text_by_figure(figure, job, run, rule, place, out);
+    refused_by([as_bytes, as_text], out_len)
 }
 
 /// Without a figure, and by one that changes nothing of it.
 fn refused(job: &[u8], asked: Asked, out_len: usize) -> (u64, u64) {
     let (run, rule, place) = asked;
-    let calls: [&dyn Fn(&mut [u8]) -> u64; 2] =
-        [&|out| explain(job, run, rule, place, out), &|out| {
-            explain_text(job, run, rule, place, out)
-        }];
-    let without = refused_by(calls, out_len);
+    let as_bytes: Call = &|out| explain(job, run, rule, place, out);
+    let as_text: Call = &|out| explain_text(job, run, rule, place, out);
+    let without = refused_by([as_bytes, as_text], out_len);
     let figure = samples::made_up().bytes();
     assert_eq!(refused_by_figure(&figure, job, asked, out_len), without);
     without

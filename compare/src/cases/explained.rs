@@ -13,7 +13,7 @@ use super::outputs::fullest;
 use super::{damaged, figures, random};
 use crate::case::{ByFigure, Case, Expected, ToExplain};
 use crate::extent::Explained;
-use crate::versions::{in_version, moved_factor, rebuilt_meter};
+use crate::versions::{in_version, longest, moved_factor, rebuilt_meter};
 
 pub fn cases(version: Version, extent: &Explained) -> impl Iterator<Item = ToExplain> {
     let made = made(version).into_iter().flat_map(alone_and_by_figure);
@@ -52,10 +52,19 @@ fn made(version: Version) -> Vec<(String, Job)> {
         ),
         sample("factors that moved", moved_factor(version)),
         sample("rebuilt meter", rebuilt_meter(version)),
+        sample("last run of the longest job", last_of_longest(version)),
     ];
     let others = [certificates::jobs(), percents::jobs(), stacks::jobs()].concat();
     jobs.extend(others.into_iter().map(|(name, job)| in_version(name, job)));
     jobs
+}
+
+/// With all 64 certificates but the last, which is that of its nozzle.
+fn last_of_longest(version: Version) -> Job {
+    let mut job = longest(version);
+    job.runs.drain(..15);
+    job.certificates.pop();
+    job
 }
 
 fn without_weighings() -> Job {
