@@ -1,6 +1,5 @@
-//! Every rule asked about a run, in turn. A rule is decided here and nowhere else: the
-//! findings list those that are broken, and an explanation shows what one of them
-//! compares.
+//! Every rule asked about a run, in turn. Each is decided once: the findings list those
+//! that are broken, and an explanation shows what one of them compares.
 
 mod instruments;
 mod sampling;
