@@ -66,7 +66,7 @@ impl Explanation {
     /// From the bytes that `explain` writes: how many conditions and how many days there
     /// are, and then these. Of bytes that end early it has what is complete.
     pub fn from_bytes(bytes: &[u8]) -> Self {
-        let count = |index| bytes.get(index).map_or(0, |&count: &u8| usize::from(count));
+        let count = |index: usize| bytes.get(index).map_or(0, |&count| usize::from(count));
         let (conditions, days) = (count(0), count(1));
         let behind_counts = bytes.get(2..).unwrap_or_default();
         let behind_conditions = behind_counts.get(conditions * CONDITION_LENGTH..);
