@@ -74,10 +74,10 @@ pub const FULL: Extent = Extent {
         one_change_in: 1,
     },
     explained: Explained {
-        random_jobs: 1_000,
-        damaged_jobs: 3_000,
-        random_figures: 500,
-        spoilt_figures: 2_000,
+        random_jobs: 300,
+        damaged_jobs: 1_500,
+        random_figures: 150,
+        spoilt_figures: 1_000,
     },
     sheets: Sheets {
         damaged_jobs: 450,
