@@ -182,11 +182,7 @@ fn sides_with_later(
     match used {
         Use::Neither => sides_of(used, before, Lookup::Nothing),
         Use::Before => sides_of(used, before, Lookup::Nothing),
-        Use::Both => sides_of(
-            used,
-            before,
-            choose(s, v, count, kind, identity, day, true),
-        ),
+        Use::Both => sides_of(used, before, choose(s, v, count, kind, identity, day, true)),
     }
 }
 

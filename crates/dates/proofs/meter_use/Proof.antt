@@ -41,7 +41,7 @@ returns-6 c = rw (c .before .match .keys6) (c .worked-use3 .ensures)
 
 returns-7 : tie.Need-returns-7
 unfolding meterUse
-returns-7 c = 
+returns-7 c =
     let rule = c .before .args .rule in
     let (not-later, rest) = not-one-of (14 ∷ 15 ∷ 16 ∷ []) rule (Besides (1 ∷ 4 ∷ 5 ∷ []) rule Unit) (c .match .rest) in
     rw (not-one-of (1 ∷ 4 ∷ 5 ∷ []) rule Unit rest .0, not-later)

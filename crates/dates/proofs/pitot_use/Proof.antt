@@ -23,7 +23,7 @@ returns-4 c = rw (c .match .keys4)
 
 returns-5 : tie.Need-returns-5
 unfolding pitotUse
-returns-5 c = 
+returns-5 c =
     let rule = c .before .args .rule in
     let (not-later, rest) = not-one-of (14 ∷ 15 ∷ 16 ∷ []) rule (Besides (2 ∷ []) rule Unit) (c .match .rest) in
     rw (not-one-of (2 ∷ []) rule Unit rest .0, not-later)

@@ -20,7 +20,7 @@ cast-number : tie.Need-cast-number
 cast-number c = search needs
 
 choose-all-requires : tie.Need-choose-all-requires
-choose-all-requires c κs = 
+choose-all-requires c κs =
     let start = c .before .before .before in
     (start .pre .0, rw (start .pre .0) (start .pre .1 .within))
 
@@ -37,7 +37,7 @@ lines-requires : tie.Need-lines-requires
 lines-requires c κs = lines-workable _ _ _ _ (c .before .before .before .before .before .before .before .pre .1 .reducible) (c .before .before .before .choose-all .ensures) (c .before .before .factor-of .ensures) (c .before .coefficient-of .ensures) (c .diameters-of .ensures)
 
 ground-at-requires : tie.Need-ground-at-requires
-ground-at-requires c κs = 
+ground-at-requires c κs =
     record {
       ok = c .before .before .before .before .before .before .before .before .pre .1 .reducible .run;
       y = _;
@@ -60,7 +60,7 @@ worked : (d : tie.After-ground-at) → d .before .lines .result ≡ linesFor (be
 worked d = lines-worked (begun d .args .v) _ _ (d .before .before .before .before .factor-of .ensures) (d .before .before .before .coefficient-of .ensures) (d .before .before .diameters-of .ensures) (d .before .lines .ensures .0)
 
 returns-2 : tie.Need-returns-2
-returns-2 c = 
+returns-2 c =
     let done = c .before .before in
     no-finding (begun done .args .v) _ _ _ _ _ _ (chosen done) (worked done) (done .ground-at .ensures) (sym (c .before .broken .ensures) ∙ not-true _ (c .if2 .taken))
 
@@ -68,13 +68,13 @@ class-requires : tie.Need-class-requires
 class-requires c κs = search needs
 
 days-of-requires : tie.Need-days-of-requires
-days-of-requires c κs = 
+days-of-requires c κs =
     let done = c .before .before .before .before in
     let start = begun done in
     ((start .pre .0, rw (start .pre .0) (start .pre .1 .within)), chosen done)
 
 returns-3 : tie.Need-returns-3
-returns-3 c = 
+returns-3 c =
     let done = c .before .before .before .before .before in
     because (begun done .args .v) _ _ _ _ _ _ (chosen done) (worked done) (done .ground-at .ensures) (sym (c .before .before .before .before .broken .ensures) ∙ not-false _ (c .before .before .before .if2 .left)) (c .before .before .class .ensures) refl (c .days-of .ensures)
 

@@ -90,7 +90,7 @@ ground-of-requires : tie.Need-ground-of-requires
 ground-of-requires c κs = judgeable _ _ (start (c .before .before .before .before .before) .pre) _ _ (c .beside-of .ensures)
 
 returns-3 : tie.Need-returns-3
-returns-3 c = 
+returns-3 c =
     let seen = c .before .before .before .before .before .before in
     rw (part-is (c .before .before), c .before .beside-of .ensures) at (c .ground-of .ensures)
     ∙ spoken _ _ _ _ _ _ (inside seen) (there seen)

@@ -57,7 +57,7 @@ enum-told-3 : tie.Need-enum-told-3
 enum-told-3 c = search needs
 
 returns-3 : tie.Need-returns-3
-returns-3 c = 
+returns-3 c =
     let at = c .before .before .before in
     no-finding _ _ _ _ _ _ _ _ (clear (at .before .before .before .before)) (at .before .before .before .find-run .ensures) (at .before .which .given .1) (c .before .before .explain-run .ensures) (c .enum-told3 .given .1)
 
@@ -68,7 +68,7 @@ same-length : tie.Need-same-length
 same-length c = search needs
 
 returns-4 : tie.Need-returns-4
-returns-4 c = 
+returns-4 c =
     let at = c .before .before .before .before .before .before .before .before in
     one-finding _ _ _ _ _ _ _ _ (clear (at .before .before .before .before)) (at .before .before .before .find-run .ensures) (at .before .which .given .1) (c .before .before .before .before .before .before .before .explain-run .ensures) (c .before .before .before .before .before .explained .given .1) (c .before .before .hand-over .ensures)
 

@@ -15,7 +15,7 @@ slice-aggregate-put-explanation : tie.Need-slice-aggregate-put-explanation
 slice-aggregate-put-explanation c = search needs
 
 put-explanation-requires : tie.Need-put-explanation-requires
-put-explanation-requires c κs = 
+put-explanation-requires c κs =
     let start = c .before .before in
     record { fits = omega (arith, length-replicate {A = ℕ} 1024 0, written-short (start .args .form) (start .args .e)) }
 
@@ -32,17 +32,17 @@ array-share-prefix-way : tie.Need-array-share-prefix-way
 array-share-prefix-way c = text (c .before .before) .inside
 
 slice-aggregate-put-word : tie.Need-slice-aggregate-put-word
-slice-aggregate-put-word c = 
+slice-aggregate-put-word c =
     let beside = text (c .before .before .before) in
     beside .whole ∙ sym (ap length (beside .front))
 
 put-word-requires : tie.Need-put-word-requires
-put-word-requires c κs = 
+put-word-requires c κs =
     let beside = text (c .before .before .before) in
     rw (beside .front) (record { fits = omega (arith, beside .whole, c .before .before .if1 .left) })
 
 cast-t14 : tie.Need-cast-t14
-cast-t14 c = 
+cast-t14 c =
     let done = c .before .before .before .before .before .before in
     let start = done .before .before .before .before in
     omega (arith, text done .whole, written-short (start .args .form) (start .args .e))
@@ -51,7 +51,7 @@ same-length : tie.Need-same-length
 same-length c = search needs
 
 returns-2 : tie.Need-returns-2
-returns-2 c = 
+returns-2 c =
     let beside = text (c .before .before .before .before .before .before) in
     let copied = rw (beside .front) at (c .before .before .put-word .ensures) in
     rw (beside .whole ∙ sym (written-end copied)) (handed-over _ _ (omega (arith, beside .whole, c .before .before .before .before .before .if1 .left)) copied)

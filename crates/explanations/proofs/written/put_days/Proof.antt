@@ -23,12 +23,12 @@ put-sides-requires : tie.Need-put-sides-requires
 put-sides-requires c κs = room-for-one (c .before .before .before .before .before)
 
 put-sides-requires-2 : tie.Need-put-sides-requires-2
-put-sides-requires-2 c κs = 
+put-sides-requires-2 c κs =
     let start = c .before .before .before .before .before .before .before .before .before in
     room-behind _ (c .before .before .before .put-sides .ensures) (room-for-two start)
 
 put-sides-requires-3 : tie.Need-put-sides-requires-3
-put-sides-requires-3 c κs = 
+put-sides-requires-3 c κs =
     let start = c .before .before .before .before .before .before .before .before .before .before .before .before .before in
     let after-two = wrote-more (c .before .before .before .before .before .before .before .put-sides .ensures) (c .before .before .before .put-sides2 .ensures) (room-for-two start) in
     room-behind _ (after-two) (room-for-three start)
@@ -38,7 +38,7 @@ same-length c = search needs
 
 returns : tie.Need-returns
 unfolding daysIn
-returns c = 
+returns c =
     let start = c .before .before .before .before .before .before .before .before .before .before .before .before .before .before .before .before in
     let after-two = wrote-more (c .before .before .before .before .before .before .before .before .before .before .put-sides .ensures) (c .before .before .before .before .before .before .put-sides2 .ensures) (room-for-two start) in
     wrote-more (after-two) (c .before .before .put-sides3 .ensures) (room-for-three start)

@@ -23,12 +23,12 @@ put-head-requires : tie.Need-put-head-requires
 put-head-requires c κs = room-for-one (c .before .before .before)
 
 put-ground-requires : tie.Need-put-ground-requires
-put-ground-requires c κs = 
+put-ground-requires c κs =
     let start = c .before .before .before .before .before .before .before in
     room-behind _ (c .before .before .before .put-head .ensures) (room-for-two start)
 
 put-days-requires : tie.Need-put-days-requires
-put-days-requires c κs = 
+put-days-requires c κs =
     let start = c .before .before .before .before .before .before .before .before .before .before .before in
     let after-two = wrote-more (c .before .before .before .before .before .before .before .put-head .ensures) (c .before .before .before .put-ground .ensures) (room-for-two start) in
     room-behind _ (after-two) (room-for-three start)
@@ -38,7 +38,7 @@ same-length c = search needs
 
 returns : tie.Need-returns
 unfolding written
-returns c = 
+returns c =
     let start = c .before .before .before .before .before .before .before .before .before .before .before .before .before .before in
     let after-two = wrote-more (c .before .before .before .before .before .before .before .before .before .before .put-head .ensures) (c .before .before .before .before .before .before .put-ground .ensures) (room-for-two start) in
     wrote-more (after-two) (c .before .before .put-days .ensures) (room-for-three start)

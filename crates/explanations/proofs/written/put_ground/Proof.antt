@@ -52,13 +52,13 @@ enum-known-ground-4 : tie.Need-enum-known-ground-4
 enum-known-ground-4 c = search needs
 
 returns-2 : tie.Need-returns-2
-returns-2 c = 
+returns-2 c =
     let left : SFits w64 (c .before .before .ground4 .given .0 .0) = record { sfits = c .before .known-told4 .given .0 .1 } in
     let right : SFits w64 (c .before .before .ground4 .given .0 .1 .0) = record { sfits = c .before .known-told4 .given .1 .0 .1 } in
     rw (signed-kept (c .before .before .before .before .before .args .form) (c .before .before .before .before .before .args .rule) (c .before .before .before .before .before .args .round) (c .before .before .ground4 .given .1) (rw (toZ-ofZ left, toZ-ofZ right) at (not-true (ltZ (toZ w64 (ofZ w64 (c .before .before .ground4 .given .0 .0))) (toZ w64 (ofZ w64 (c .before .before .ground4 .given .0 .1 .0)))) (c .if2 .taken)))) (wrote-none _ _)
 
 put-below-requires : tie.Need-put-below-requires
-put-below-requires c κs = 
+put-below-requires c κs =
     let left : SFits w64 (c .before .before .before .ground4 .given .0 .0) = record { sfits = c .before .before .known-told4 .given .0 .1 } in
     let right : SFits w64 (c .before .before .before .ground4 .given .0 .1 .0) = record { sfits = c .before .before .known-told4 .given .1 .0 .1 } in
     rw (toZ-ofZ left, toZ-ofZ right) (rw (signed-text (c .before .before .before .before .before .before .args .form) (c .before .before .before .before .before .before .args .rule) (c .before .before .before .before .before .before .args .round) (c .before .before .before .ground4 .given .1) (rw (toZ-ofZ left, toZ-ofZ right) at (not-false (ltZ (toZ w64 (ofZ w64 (c .before .before .before .ground4 .given .0 .0))) (toZ w64 (ofZ w64 (c .before .before .before .ground4 .given .0 .1 .0)))) (c .before .if2 .left)))) at (c .before .before .before .before .before .before .pre))
@@ -91,7 +91,7 @@ same-length-4 : tie.Need-same-length-4
 same-length-4 c = search needs
 
 returns-8 : tie.Need-returns-8
-returns-8 c = 
+returns-8 c =
     let left : SFits w64 (c .before .before .before .before .before .before .ground4 .given .0 .0) = record { sfits = c .before .before .before .before .before .known-told4 .given .0 .1 } in
     let right : SFits w64 (c .before .before .before .before .before .before .ground4 .given .0 .1 .0) = record { sfits = c .before .before .before .before .before .known-told4 .given .1 .0 .1 } in
     rw (signed-text (c .before .before .before .before .before .before .before .before .before .args .form) (c .before .before .before .before .before .before .before .before .before .args .rule) (c .before .before .before .before .before .before .before .before .before .args .round) (c .before .before .before .before .before .before .ground4 .given .1) (rw (toZ-ofZ left, toZ-ofZ right) at (not-false (ltZ (toZ w64 (ofZ w64 (c .before .before .before .before .before .before .ground4 .given .0 .0))) (toZ w64 (ofZ w64 (c .before .before .before .before .before .before .ground4 .given .0 .1 .0)))) (c .before .before .before .before .if2 .left)))) (rw (toZ-ofZ left, toZ-ofZ right) at (c .before .before .put-below .ensures))

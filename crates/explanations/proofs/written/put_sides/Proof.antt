@@ -20,7 +20,7 @@ put-day-requires : tie.Need-put-day-requires
 put-day-requires c κs = room-for-one (c .before .before)
 
 put-day-requires-2 : tie.Need-put-day-requires-2
-put-day-requires-2 c κs = 
+put-day-requires-2 c κs =
     let start = c .before .before .before .before .before .before in
     room-behind _ (c .before .before .before .put-day .ensures) (room-for-two start)
 
@@ -29,7 +29,7 @@ same-length c = search needs
 
 returns : tie.Need-returns
 unfolding sidesIn
-returns c = 
+returns c =
     let start = c .before .before .before .before .before .before .before .before .before in
     wrote-more (c .before .before .before .before .before .before .put-day .ensures) (c .before .before .put-day2 .ensures) (room-for-two start)
 

@@ -83,7 +83,7 @@ returns-5 c = rw (c .before .before .before .before .self3 .given .1, ← c .bef
 
 returns-6 : tie.Need-returns-6
 unfolding conditions shown
-returns-6 c = 
+returns-6 c =
     let left : SFits w64 (c .before .before .self4 .given .0 .0) = record { sfits = c .before .known-told4 .given .0 .1 } in
     let right : SFits w64 (c .before .before .self4 .given .0 .1 .0) = record { sfits = c .before .known-told4 .given .1 .0 .1 } in
     rw (c .before .before .self4 .given .1, ← toZ-ofZ left, ← toZ-ofZ right) (c .one-if5 .ensures ∙ shown-of-one _ _)

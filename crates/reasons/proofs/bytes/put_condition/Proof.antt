@@ -31,25 +31,25 @@ put-pair-requires : tie.Need-put-pair-requires
 put-pair-requires c κs = rw (c .way-number .ensures) (room-for-one (c .before .before .before))
 
 put-wide-requires : tie.Need-put-wide-requires
-put-wide-requires c κs = 
+put-wide-requires c κs =
     let start = c .before .before .before .before .before .before .before in
     room-behind _ (rw (c .before .before .before .before .way-number .ensures) at (c .before .before .before .put-pair .ensures)) (room-for-two start)
 
 put-wide-requires-2 : tie.Need-put-wide-requires-2
-put-wide-requires-2 c κs = 
+put-wide-requires-2 c κs =
     let start = c .before .before .before .before .before .before .before .before .before .before .before in
     let after-two = wrote-more (rw (c .before .before .before .before .before .before .before .before .way-number .ensures) at (c .before .before .before .before .before .before .before .put-pair .ensures)) (c .before .before .before .put-wide .ensures) (room-for-two start) in
     room-behind _ (after-two) (room-for-three start)
 
 put-wide-requires-3 : tie.Need-put-wide-requires-3
-put-wide-requires-3 c κs = 
+put-wide-requires-3 c κs =
     let start = c .before .before .before .before .before .before .before .before .before .before .before .before .before .before .before in
     let after-two = wrote-more (rw (c .before .before .before .before .before .before .before .before .before .before .before .before .way-number .ensures) at (c .before .before .before .before .before .before .before .before .before .before .before .put-pair .ensures)) (c .before .before .before .before .before .before .before .put-wide .ensures) (room-for-two start) in
     let after-three = wrote-more (after-two) (c .before .before .before .put-wide2 .ensures) (room-for-three start) in
     room-behind _ (after-three) (room-for-four start)
 
 put-wide-requires-4 : tie.Need-put-wide-requires-4
-put-wide-requires-4 c κs = 
+put-wide-requires-4 c κs =
     let start = c .before .before .before .before .before .before .before .before .before .before .before .before .before .before .before .before .before .before .before in
     let after-two = wrote-more (rw (c .before .before .before .before .before .before .before .before .before .before .before .before .before .before .before .before .way-number .ensures) at (c .before .before .before .before .before .before .before .before .before .before .before .before .before .before .before .put-pair .ensures)) (c .before .before .before .before .before .before .before .before .before .before .before .put-wide .ensures) (room-for-two start) in
     let after-three = wrote-more (after-two) (c .before .before .before .before .before .before .before .put-wide2 .ensures) (room-for-three start) in
@@ -60,7 +60,7 @@ same-length : tie.Need-same-length
 same-length c = search needs
 
 returns : tie.Need-returns
-returns c = 
+returns c =
     let start = c .before .before .before .before .before .before .before .before .before .before .before .before .before .before .before .before .before .before .before .before .before .before in
     let after-two = wrote-more (rw (c .before .before .before .before .before .before .before .before .before .before .before .before .before .before .before .before .before .before .before .way-number .ensures) at (c .before .before .before .before .before .before .before .before .before .before .before .before .before .before .before .before .before .before .put-pair .ensures)) (c .before .before .before .before .before .before .before .before .before .before .before .before .before .before .put-wide .ensures) (room-for-two start) in
     let after-three = wrote-more (after-two) (c .before .before .before .before .before .before .before .before .before .before .put-wide2 .ensures) (room-for-three start) in

@@ -21,12 +21,12 @@ put-pair-requires : tie.Need-put-pair-requires
 put-pair-requires c κs = room-for-one (c .before .before)
 
 put-small-requires : tie.Need-put-small-requires
-put-small-requires c κs = 
+put-small-requires c κs =
     let start = c .before .before .before .before .before .before in
     room-behind _ (c .before .before .before .put-pair .ensures) (room-for-two start)
 
 put-wide-requires : tie.Need-put-wide-requires
-put-wide-requires c κs = 
+put-wide-requires c κs =
     let start = c .before .before .before .before .before .before .before .before .before .before in
     let after-two = wrote-more (c .before .before .before .before .before .before .before .put-pair .ensures) (c .before .before .before .put-small .ensures) (room-for-two start) in
     room-behind _ (after-two) (room-for-three start)
@@ -35,7 +35,7 @@ same-length : tie.Need-same-length
 same-length c = search needs
 
 returns : tie.Need-returns
-returns c = 
+returns c =
     let start = c .before .before .before .before .before .before .before .before .before .before .before .before .before in
     let after-two = wrote-more (c .before .before .before .before .before .before .before .before .before .before .put-pair .ensures) (c .before .before .before .before .before .before .put-small .ensures) (room-for-two start) in
     wrote-more (after-two) (c .before .before .put-wide .ensures) (room-for-three start)

@@ -37,20 +37,20 @@ put-word-requires c κs = room-for-one (c .before .before .before)
 
 put-signed-requires : tie.Need-put-signed-requires
 unfolding spelled
-put-signed-requires c κs = 
+put-signed-requires c κs =
     let start = c .before .before .before .before .before .before .before in
     rw (toZ-ofZ (c .before .before .before .before .before .before .before .fits .left)) (room-behind _ (c .before .before .before .put-word .ensures) (room-for-two start))
 
 put-way-requires : tie.Need-put-way-requires
 unfolding spelled
-put-way-requires c κs = 
+put-way-requires c κs =
     let start = c .before .before .before .before .before .before .before .before .before .before .before in
     let after-two = wrote-more (c .before .before .before .before .before .before .before .put-word .ensures) (rw (toZ-ofZ (c .before .before .before .before .before .before .before .before .before .before .before .fits .left)) at (c .before .before .before .put-signed .ensures)) (room-for-two start) in
     room-behind _ (after-two) (room-for-three start)
 
 put-signed-requires-2 : tie.Need-put-signed-requires-2
 unfolding spelled
-put-signed-requires-2 c κs = 
+put-signed-requires-2 c κs =
     let start = c .before .before .before .before .before .before .before .before .before .before .before .before .before .before .before in
     let after-two = wrote-more (c .before .before .before .before .before .before .before .before .before .before .before .put-word .ensures) (rw (toZ-ofZ (c .before .before .before .before .before .before .before .before .before .before .before .before .before .before .before .fits .left)) at (c .before .before .before .before .before .before .before .put-signed .ensures)) (room-for-two start) in
     let after-three = wrote-more (after-two) (c .before .before .before .put-way .ensures) (room-for-three start) in
@@ -58,7 +58,7 @@ put-signed-requires-2 c κs =
 
 put-meaning-requires : tie.Need-put-meaning-requires
 unfolding spelled
-put-meaning-requires c κs = 
+put-meaning-requires c κs =
     let start = c .before .before .before .before .before .before .before .before .before .before .before .before .before .before .before .before .before .before .before in
     let after-two = wrote-more (c .before .before .before .before .before .before .before .before .before .before .before .before .before .before .before .put-word .ensures) (rw (toZ-ofZ (c .before .before .before .before .before .before .before .before .before .before .before .before .before .before .before .before .before .before .before .fits .left)) at (c .before .before .before .before .before .before .before .before .before .before .before .put-signed .ensures)) (room-for-two start) in
     let after-three = wrote-more (after-two) (c .before .before .before .before .before .before .before .put-way .ensures) (room-for-three start) in
@@ -70,7 +70,7 @@ same-length c = search needs
 
 returns : tie.Need-returns
 unfolding conditionText numberText spelled
-returns c = 
+returns c =
     let start = c .before .before .before .before .before .before .before .before .before .before .before .before .before .before .before .before .before .before .before .before .before .before in
     let after-two = wrote-more (c .before .before .before .before .before .before .before .before .before .before .before .before .before .before .before .before .before .before .put-word .ensures) (rw (toZ-ofZ (c .before .before .before .before .before .before .before .before .before .before .before .before .before .before .before .before .before .before .before .before .before .before .fits .left)) at (c .before .before .before .before .before .before .before .before .before .before .before .before .before .before .put-signed .ensures)) (room-for-two start) in
     let after-three = wrote-more (after-two) (c .before .before .before .before .before .before .before .before .before .before .put-way .ensures) (room-for-three start) in

@@ -36,20 +36,20 @@ put-word-requires c κs = room-for-one (c .before .before .before)
 
 put-kind-requires : tie.Need-put-kind-requires
 unfolding spelled
-put-kind-requires c κs = 
+put-kind-requires c κs =
     let start = c .before .before .before .before .before .before .before in
     room-behind _ (c .before .before .before .put-word .ensures) (room-for-two start)
 
 put-side-requires : tie.Need-put-side-requires
 unfolding spelled
-put-side-requires c κs = 
+put-side-requires c κs =
     let start = c .before .before .before .before .before .before .before .before .before .before .before in
     let after-two = wrote-more (c .before .before .before .before .before .before .before .put-word .ensures) (c .before .before .before .put-kind .ensures) (room-for-two start) in
     room-behind _ (after-two) (room-for-three start)
 
 put-decimal-requires : tie.Need-put-decimal-requires
 unfolding spelled
-put-decimal-requires c κs = 
+put-decimal-requires c κs =
     let start = c .before .before .before .before .before .before .before .before .before .before .before .before .before .before .before in
     let after-two = wrote-more (c .before .before .before .before .before .before .before .before .before .before .before .put-word .ensures) (c .before .before .before .before .before .before .before .put-kind .ensures) (room-for-two start) in
     let after-three = wrote-more (after-two) (c .before .before .before .put-side .ensures) (room-for-three start) in
@@ -60,7 +60,7 @@ slice-aggregate-put-word-2 c = search needs
 
 put-word-requires-2 : tie.Need-put-word-requires-2
 unfolding spelled
-put-word-requires-2 c κs = 
+put-word-requires-2 c κs =
     let start = c .before .before .before .before .before .before .before .before .before .before .before .before .before .before .before .before .before .before .before .before in
     let after-two = wrote-more (c .before .before .before .before .before .before .before .before .before .before .before .before .before .before .before .before .put-word .ensures) (c .before .before .before .before .before .before .before .before .before .before .before .before .put-kind .ensures) (room-for-two start) in
     let after-three = wrote-more (after-two) (c .before .before .before .before .before .before .before .before .put-side .ensures) (room-for-three start) in
@@ -72,7 +72,7 @@ same-length c = search needs
 
 returns : tie.Need-returns
 unfolding dayText spelled
-returns c = 
+returns c =
     let start = c .before .before .before .before .before .before .before .before .before .before .before .before .before .before .before .before .before .before .before .before .before .before .before in
     let after-two = wrote-more (c .before .before .before .before .before .before .before .before .before .before .before .before .before .before .before .before .before .before .before .put-word .ensures) (c .before .before .before .before .before .before .before .before .before .before .before .before .before .before .before .put-kind .ensures) (room-for-two start) in
     let after-three = wrote-more (after-two) (c .before .before .before .before .before .before .before .before .before .before .before .put-side .ensures) (room-for-three start) in

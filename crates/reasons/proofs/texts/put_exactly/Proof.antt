@@ -36,20 +36,20 @@ put-word-requires c κs = room-for-one (c .before .before .before)
 
 put-quotient-requires : tie.Need-put-quotient-requires
 unfolding spelled
-put-quotient-requires c κs = 
+put-quotient-requires c κs =
     let start = c .before .before .before .before .before .before .before in
     room-behind _ (c .before .before .before .put-word .ensures) (room-for-two start)
 
 put-way-requires : tie.Need-put-way-requires
 unfolding spelled
-put-way-requires c κs = 
+put-way-requires c κs =
     let start = c .before .before .before .before .before .before .before .before .before .before .before in
     let after-two = wrote-more (c .before .before .before .before .before .before .before .put-word .ensures) (c .before .before .before .put-quotient .ensures) (room-for-two start) in
     room-behind _ (after-two) (room-for-three start)
 
 put-quotient-requires-2 : tie.Need-put-quotient-requires-2
 unfolding spelled
-put-quotient-requires-2 c κs = 
+put-quotient-requires-2 c κs =
     let start = c .before .before .before .before .before .before .before .before .before .before .before .before .before .before .before in
     let after-two = wrote-more (c .before .before .before .before .before .before .before .before .before .before .before .put-word .ensures) (c .before .before .before .before .before .before .before .put-quotient .ensures) (room-for-two start) in
     let after-three = wrote-more (after-two) (c .before .before .before .put-way .ensures) (room-for-three start) in
@@ -57,7 +57,7 @@ put-quotient-requires-2 c κs =
 
 put-meaning-requires : tie.Need-put-meaning-requires
 unfolding spelled
-put-meaning-requires c κs = 
+put-meaning-requires c κs =
     let start = c .before .before .before .before .before .before .before .before .before .before .before .before .before .before .before .before .before .before .before in
     let after-two = wrote-more (c .before .before .before .before .before .before .before .before .before .before .before .before .before .before .before .put-word .ensures) (c .before .before .before .before .before .before .before .before .before .before .before .put-quotient .ensures) (room-for-two start) in
     let after-three = wrote-more (after-two) (c .before .before .before .before .before .before .before .put-way .ensures) (room-for-three start) in
@@ -69,7 +69,7 @@ same-length c = search needs
 
 returns : tie.Need-returns
 unfolding conditionText spelled
-returns c = 
+returns c =
     let start = c .before .before .before .before .before .before .before .before .before .before .before .before .before .before .before .before .before .before .before .before .before .before in
     let after-two = wrote-more (c .before .before .before .before .before .before .before .before .before .before .before .before .before .before .before .before .before .before .put-word .ensures) (c .before .before .before .before .before .before .before .before .before .before .before .before .before .before .put-quotient .ensures) (room-for-two start) in
     let after-three = wrote-more (after-two) (c .before .before .before .before .before .before .before .before .before .before .put-way .ensures) (room-for-three start) in

@@ -30,7 +30,7 @@ put-word-requires c κs = room-for-one (c .before .before .before)
 
 put-words-requires : tie.Need-put-words-requires
 unfolding spelled
-put-words-requires c κs = 
+put-words-requires c κs =
     let start = c .before .before .before .before .before .before .before in
     room-behind _ (c .before .before .before .put-word .ensures) (room-for-two start)
 
@@ -39,7 +39,7 @@ slice-aggregate-put-word-2 c = search needs
 
 put-word-requires-2 : tie.Need-put-word-requires-2
 unfolding spelled
-put-word-requires-2 c κs = 
+put-word-requires-2 c κs =
     let start = c .before .before .before .before .before .before .before .before .before .before .before .before in
     let after-two = wrote-more (c .before .before .before .before .before .before .before .before .put-word .ensures) (c .before .before .before .before .put-words .ensures) (room-for-two start) in
     room-behind _ (after-two) (room-for-three start)
@@ -49,7 +49,7 @@ same-length c = search needs
 
 returns : tie.Need-returns
 unfolding meaningText spelled
-returns c = 
+returns c =
     let start = c .before .before .before .before .before .before .before .before .before .before .before .before .before .before .before in
     let after-two = wrote-more (c .before .before .before .before .before .before .before .before .before .before .before .put-word .ensures) (c .before .before .before .before .before .before .before .put-words .ensures) (room-for-two start) in
     wrote-more (after-two) (c .before .before .put-word2 .ensures) (room-for-three start)

@@ -29,13 +29,13 @@ slice-aggregate-put-word c = search needs
 
 put-word-requires : tie.Need-put-word-requires
 unfolding spelled
-put-word-requires c κs = 
+put-word-requires c κs =
     let start = c .before .before .before .before .before .before .before in
     room-behind _ (c .before .before .before .before .put-decimal .ensures) (room-for-two start)
 
 put-decimal-requires-2 : tie.Need-put-decimal-requires-2
 unfolding spelled
-put-decimal-requires-2 c κs = 
+put-decimal-requires-2 c κs =
     let start = c .before .before .before .before .before .before .before .before .before .before .before in
     let after-two = wrote-more (c .before .before .before .before .before .before .before .before .put-decimal .ensures) (c .before .before .before .put-word .ensures) (room-for-two start) in
     room-behind _ (after-two) (room-for-three start)
@@ -45,7 +45,7 @@ same-length c = search needs
 
 returns : tie.Need-returns
 unfolding numberText signedDecimal spelled
-returns c = 
+returns c =
     let start = c .before .before .before .before .before .before .before .before .before .before .before .before .before .before in
     let after-two = wrote-more (c .before .before .before .before .before .before .before .before .before .before .before .put-decimal .ensures) (c .before .before .before .before .before .before .put-word .ensures) (room-for-two start) in
     wrote-more (after-two) (c .before .before .put-decimal2 .ensures) (room-for-three start)
