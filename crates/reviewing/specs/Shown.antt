@@ -2,11 +2,12 @@
 -- that is broken and no other, with numbers that can be checked by themselves.
 use Prim.Native.Nat.{ℕ, _+_, _*_}
 use mathlib.Core.Path.{_≡_}
-use mathlib.Core.Bool.{Bool, true, cond, not}
+use mathlib.Core.Bool.{Bool, true, false, cond, not}
 use mathlib.Core.List.{List, [], _∷_}
 use mathlib.Core.Logic.{_⊎_, _↔_}
-use lib.IntN.{ℤ, pos}
-use lib.Signed.{ltZ, leZ}
+use lib.Dec.{eqb}
+use lib.IntN.{ℤ, pos, negsuc}
+use lib.Signed.{ltZ}
 use Rattle.readings.specs.Ranges.{roundShape}
 use Rattle.records.specs.declared.Site.{Site}
 use Rattle.grounds.specs.declared.comparison.Way.{Way}
@@ -28,7 +29,10 @@ use Rattle.explaining.specs.Explaining.{groundFor}
 
 -- two whole numbers are equal
 abbrev pub equalZ : ℤ → ℤ → Bool
-equalZ a b = cond (leZ a b) (leZ b a) (leZ a b)
+equalZ (pos a) (pos b) = eqb a b
+equalZ (pos a) (negsuc b) = false
+equalZ (negsuc a) (pos b) = false
+equalZ (negsuc a) (negsuc b) = eqb a b
 
 -- a stands to b this way
 abbrev pub standsToZ : Way → ℤ → ℤ → Bool
@@ -42,9 +46,9 @@ abbrev pub holdsAsShown : Condition → Bool
 holdsAsShown c = cond (equalZ (c .left) (c .right)) (standsToZ (c .way) (c .remainder) (c .limit)) (standsToZ (c .way) (c .left) (c .right))
 
 -- a list holds x
-pub data In {A : Type 0} (x : A) : List A → Type 0 where
-  here : {xs : List A} → In x (x ∷ xs)
-  later : {y : A} {xs : List A} → In x xs → In x (y ∷ xs)
+abbrev pub In : {A : Type 0} → A → List A → Type 0
+In x [] = ⊥
+In x (y ∷ ys) = (x ≡ y) ⊎ In x ys
 
 -- Of every ground
 pub record ShownExactly (g : Ground) : Type 0 where

@@ -1,0 +1,4 @@
+-- The theorems over the calls that explain.
+pub mod Conditions
+pub mod Placed
+pub mod SiteNumbers
