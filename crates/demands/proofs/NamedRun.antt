@@ -32,7 +32,7 @@ module _ (s : List ℕ) (run : ℕ) (clear : jobTrouble s ≡ Clear) where
   only-run k inside number = record { inside = inside; number = number; only = λ j h e. one-of-number j k h inside (e ∙ sym number) }
 
   -- so the run of that number is the one found
-  found-by-number : (k : ℕ) → k < runCountOf s → runOf s k .header .number ≡ run → runNamed (runOf s) run (runCountOf s) ≡ Index k
+  pub found-by-number : (k : ℕ) → k < runCountOf s → runOf s k .header .number ≡ run → runNamed (runOf s) run (runCountOf s) ≡ Index k
   found-by-number k inside number = go (runNamed (runOf s) run (runCountOf s)) refl
     where
       go : (which : Which) → runNamed (runOf s) run (runCountOf s) ≡ which → runNamed (runOf s) run (runCountOf s) ≡ Index k
@@ -40,7 +40,7 @@ module _ (s : List ℕ) (run : ℕ) (clear : jobTrouble s ≡ Clear) where
       go (Index j) e = e ∙ ap Index (one-of-number j k (found-inside (runOf s) run (runCountOf s) e) inside (named (runOf s) run (runCountOf s) e ∙ sym number))
 
   -- and where no run has it none is found
-  not-found : ((k : ℕ) → k < runCountOf s → runOf s k .header .number ≡ run → ⊥) → runNamed (runOf s) run (runCountOf s) ≡ NoRun
+  pub not-found : ((k : ℕ) → k < runCountOf s → runOf s k .header .number ≡ run → ⊥) → runNamed (runOf s) run (runCountOf s) ≡ NoRun
   not-found none = go (runNamed (runOf s) run (runCountOf s)) refl
     where
       go : (which : Which) → runNamed (runOf s) run (runCountOf s) ≡ which → runNamed (runOf s) run (runCountOf s) ≡ NoRun

@@ -30,7 +30,7 @@ use Rattle.demands.proofs.SameOutcomes.{reduces-same}
 use Rattle.demands.proofs.Unmoved.{not-moved, worked-same}
 
 -- a job that is read repeats no certificate
-read-unique : (s : List ℕ) → jobTrouble s ≡ Clear → Unique (certificateOf s) (certificateCountOf s)
+pub read-unique : (s : List ℕ) → jobTrouble s ≡ Clear → Unique (certificateOf s) (certificateCountOf s)
 read-unique s clear = record { once = once }
   where
     once : (i j : ℕ) → i < certificateCountOf s → j < certificateCountOf s → Of (certificateOf s j .kind) (certificateOf s j .identity) (certificateOf s i) → certificateOf s i .day ≡ certificateOf s j .day → i ≡ j

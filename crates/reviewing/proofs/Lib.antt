@@ -2,3 +2,5 @@
 pub mod Conditions
 pub mod Placed
 pub mod SiteNumbers
+pub mod Answered
+pub mod TwoReasons
