@@ -40,9 +40,16 @@ use Rattle.layouts.specs.Outcomes.{distanceSize, ifRoom, lentOutcome, layoutOut
 use Rattle.handing.specs.Handing.{refused, reduced, handed, success, answerOf}
 use Rattle.counting.specs.Counting.{countOf, countAnswer, numberAt, numberAnswer}
 use Rattle.runs.specs.Outcomes.{ofRun, ofTrouble, outcome, unlessBadFigure}
+use Rattle.explaining.specs.declared.Explained.{Explained}
+use Rattle.explaining.specs.declared.Explained.the-variants.{NoFinding, Because}
+use Rattle.explaining.specs.Explaining.{explainedRun}
+use Rattle.explanations.specs.declared.Form.{Form}
+use Rattle.explanations.specs.Written.{written}
+use Rattle.explanations.specs.Outcomes.{ofExplained, ofRun as explainingRun, ofTrouble as explainingTrouble, explaining}
+use Rattle.explanations.proofs.Lengths.{written-short}
 use Rattle.demands.specs.FigureFile.{Lent, supplied, figureIn}
 use Rattle.demands.proofs.FigureFile.{bad-lent}
-use Rattle.demands.specs.Demands.{Given, toReduce, toRunCount, toRunNumber, toSheetText, toRoundLayout, toRectLayout}
+use Rattle.demands.specs.Demands.{Given, toReduce, toRunCount, toRunNumber, toSheetText, toExplain, toRoundLayout, toRectLayout}
 use Rattle.output.specs.declared.Answer.{Answer}
 use Rattle.output.specs.declared.Answer.the-variants.{Done, Refused}
 use Rattle.output.specs.Answers.{packed}
@@ -124,6 +131,26 @@ text-told fig s room = go (jobTrouble s) refl
     go (At n p) e = reader-told s e
     go Clear e = by-room (ltb room (length (jobText fig s)))
 
+explain-told : (form : Form) (fig : Figure) (s : List ℕ) (run rule place room : ℕ) → Tellable (printingAnswer (explaining form fig s run rule place room))
+unfolding explaining ofExplained ifFits printingAnswer
+explain-told form fig s run rule place room = by-trouble (jobTrouble s) refl
+  where
+    by-room : (text : List ℕ) (short : Bool) → length text ≤ 1024 → Tellable (printingAnswer (cond short (unprinted 9 0) (printed text)))
+    by-room text true few = (lit≤ tt, lit< tt)
+    by-room text false few = omega (arith, few)
+
+    by-finding : (x : Explained) → Tellable (printingAnswer (ofExplained form x room))
+    by-finding NoFinding = (lit≤ tt, lit< tt)
+    by-finding (Because e) = by-room (written form e) (ltb room (length (written form e))) (written-short form e)
+
+    by-number : (which : Which) → Tellable (printingAnswer (explainingRun form fig s which rule place room))
+    by-number NoRun = (lit≤ tt, lit< tt)
+    by-number (Index k) = by-finding (explainedRun fig s k rule place)
+
+    by-trouble : (t : Trouble) → jobTrouble s ≡ t → Tellable (printingAnswer (explainingTrouble form t fig s run rule place room))
+    by-trouble (At n p) e = reader-told s e
+    by-trouble Clear e = by-number (runNamed (runOf s) run (runCountOf s))
+
 -- a layout of no more distances than there may be
 layout-told : (fits : Bool) (ds : List ℕ) (room : ℕ) → (fits ≡ true → length ds ≤ mostDistances) → Tellable (layoutAnswer (layoutOutcome fits ds room))
 unfolding layoutOutcome lentOutcome layoutAnswer
@@ -159,11 +186,17 @@ unfolding printingAnswer
 text-by-told l s room (At n p) e = figure-told l e
 text-by-told l s room Clear e = text-told (figureIn l) s room
 
+explain-by-told : (form : Form) (l : Lent) (s : List ℕ) (run rule place room : ℕ) (t : Trouble) → supplied l .trouble ≡ t → Tellable (printingAnswer (unprintedIfBad t (explaining form (figureIn l) s run rule place room)))
+unfolding printingAnswer
+explain-by-told form l s run rule place room (At n p) e = figure-told l e
+explain-by-told form l s run rule place room Clear e = explain-told form (figureIn l) s run rule place room
+
 tellable : {a : Answer} → Given a → Tellable a
 tellable (toReduce l s run lines findings) = reduce-by-told l s run lines findings (supplied l .trouble) refl
 tellable (toRunCount s) = count-told s
 tellable (toRunNumber s index) = number-told s index
 tellable (toSheetText l s room) = text-by-told l s room (supplied l .trouble) refl
+tellable (toExplain form l s run rule place room) = explain-by-told form l s run rule place room (supplied l .trouble) refl
 tellable (toRoundLayout points diameter nozzle room) = round-told points diameter nozzle room
 tellable (toRectLayout points first second room) = rectangle-told points first second room
 

@@ -27,6 +27,8 @@ use Rattle.layouts.specs.Outcomes.{roundOutcome, rectangleOutcome, layoutAnswer
 use Rattle.handing.specs.Handing.{success, answerOf}
 use Rattle.counting.specs.Counting.{countAnswer, numberAnswer}
 use Rattle.runs.specs.Outcomes.{outcomeBy}
+use Rattle.explanations.specs.declared.Form.{Form}
+use Rattle.explanations.specs.Outcomes.{explainingBy}
 use Rattle.leverbonnet.specs.Calls.{Reduces}
 use Rattle.steps.specs.declared.Figure.{Figure}
 use Rattle.demands.specs.FigureFile.{Lent, supplied, figureIn, GoodLent}
@@ -86,12 +88,13 @@ pub data CameTo (c : Call) : Type 0 where
   byRow : (number place : ℕ) → RowApplies c number place → RefusedWith c number place → CameTo c
   toRun : (k : ℕ) → ReducesRun c k → CameTo c
 
--- the answers that the eight calls can give, whatever they are given
+-- the answers that the twelve calls can give, whatever they are given
 pub data Given : Answer → Type 0 where
   toReduce : (l : Lent) (s : List ℕ) (run lines findings : ℕ) → Given (answerOf (outcomeBy (supplied l) s run lines findings))
   toRunCount : (s : List ℕ) → Given (countAnswer s)
   toRunNumber : (s : List ℕ) (index : ℕ) → Given (numberAnswer s index)
   toSheetText : (l : Lent) (s : List ℕ) (room : ℕ) → Given (printingAnswer (printingBy (supplied l) s room))
+  toExplain : (form : Form) (l : Lent) (s : List ℕ) (run rule place room : ℕ) → Given (printingAnswer (explainingBy form (supplied l) s run rule place room))
   toRoundLayout : (points diameter nozzle room : ℕ) → Given (layoutAnswer (roundOutcome points diameter nozzle room))
   toRectLayout : (points first second room : ℕ) → Given (layoutAnswer (rectangleOutcome points first second room))
 

@@ -33,6 +33,7 @@ use Rattle.demands.proofs.FigureFile.{lent-clear, clear-lent, bad-file, bad-len
 use Rattle.demands.proofs.GoodParts.{clear-job, good-job}
 use Rattle.demands.proofs.ByTable.{row-told, told-row}
 use Rattle.demands.proofs.NamedRun.{only-run, found-by-number, not-found}
+use Rattle.demands.proofs.Apart.{answers-apart}
 use Rattle.reviewing.specs.Shown.{findingsIn, groundIn}
 use Rattle.reviewing.specs.Asking.{Asking, KeepsPromise, Asked, reasonOf, RowFor, row14, ofFile, row10, row15, row9, RefusedFor, ExplainsRun, CameOf, byRow, toFinding, AskedAndAnswered}
 use Rattle.reviewing.proofs.Placed.{from-one-table}
@@ -169,4 +170,9 @@ module _ (a : Asking) where
 
     -- Every call to explain
     pub asked-and-answered : AskedAndAnswered a
-    asked-and-answered = record { came = by-figure (supplied l .trouble) refl; row = row-answered }
+    asked-and-answered =
+        record {
+          came = by-figure (supplied l .trouble) refl;
+          row = row-answered;
+          alone = λ x y e f. answers-apart x y (e ∙ sym f);
+        }

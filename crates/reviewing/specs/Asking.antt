@@ -9,6 +9,7 @@ use Rattle.findings.specs.Listing.{HasFinding}
 use Rattle.heads.specs.Values.{certificateOf}
 use Rattle.opening.specs.Opening.{versionOf, certificateCountOf, runCountOf}
 use Rattle.job.specs.Places.{runOf}
+use Rattle.output.specs.declared.Answer.{Answer}
 use Rattle.output.specs.declared.Answer.the-variants.{Done, Refused}
 use Rattle.output.specs.Answers.{packed}
 use Rattle.output.specs.Splice.{spliced}
@@ -20,7 +21,7 @@ use Rattle.leverbonnet.specs.Calls.{ExplainsFinding}
 use Rattle.demands.specs.FigureFile.{Lent, file, supplied, figureIn, GoodLent}
 use Rattle.demands.specs.ReadingOrder.{numberOf, GoodJob}
 use Rattle.demands.specs.Table.{FirstBad, FileRefused}
-use Rattle.demands.specs.Demands.{OnlyRun, SameRun, SameFigure}
+use Rattle.demands.specs.Demands.{OnlyRun, Given, SameRun, SameFigure}
 use Rattle.reviewing.specs.Shown.{findingsIn}
 
 -- A call to explain: its form, the figure, the job, the run, the rule and the place that it was given, the output before and after it, and
@@ -99,6 +100,8 @@ pub record AskedAndAnswered (a : Asking) : Type 0 where
   pub came : CameOf a
   -- where a row applies, that is the answer
   pub row : (number place : ℕ) → RowFor a number place → RefusedFor a number place
+  -- and no other answer that a call can give is that number
+  pub alone : {x y : Answer} → Given x → Given y → packed x ≡ a .answer → packed y ≡ a .answer → x ≡ y
 
 -- Demand 3, two jobs: what it answers and writes for one, it answers and writes for the other, byte for byte
 abbrev pub SameReasons : Type 0
