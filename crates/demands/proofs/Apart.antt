@@ -45,7 +45,7 @@ use Rattle.explaining.specs.declared.Explained.the-variants.{NoFinding, Because
 use Rattle.explaining.specs.Explaining.{explainedRun}
 use Rattle.explanations.specs.declared.Form.{Form}
 use Rattle.explanations.specs.Written.{written}
-use Rattle.explanations.specs.Outcomes.{ofExplained, ofRun as explainingRun, ofTrouble as explainingTrouble, explaining}
+use Rattle.explanations.specs.Outcomes.{ofExplained, ofNamedRun, unlessJobTrouble, explaining}
 use Rattle.explanations.proofs.Lengths.{written-short}
 use Rattle.demands.specs.FigureFile.{Lent, supplied, figureIn}
 use Rattle.demands.proofs.FigureFile.{bad-lent}
@@ -143,11 +143,11 @@ explain-told form fig s run rule place room = by-trouble (jobTrouble s) refl
     by-finding NoFinding = (lit≤ tt, lit< tt)
     by-finding (Because e) = by-room (written form e) (ltb room (length (written form e))) (written-short form e)
 
-    by-number : (which : Which) → Tellable (printingAnswer (explainingRun form fig s which rule place room))
+    by-number : (which : Which) → Tellable (printingAnswer (ofNamedRun form fig s which rule place room))
     by-number NoRun = (lit≤ tt, lit< tt)
     by-number (Index k) = by-finding (explainedRun fig s k rule place)
 
-    by-trouble : (t : Trouble) → jobTrouble s ≡ t → Tellable (printingAnswer (explainingTrouble form t fig s run rule place room))
+    by-trouble : (t : Trouble) → jobTrouble s ≡ t → Tellable (printingAnswer (unlessJobTrouble form t fig s run rule place room))
     by-trouble (At n p) e = reader-told s e
     by-trouble Clear e = by-number (runNamed (runOf s) run (runCountOf s))
 

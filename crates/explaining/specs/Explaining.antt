@@ -18,7 +18,6 @@ use Rattle.grounds.specs.declared.Ground.the-variants.{Silent}
 use Rattle.grounds.specs.Grounds.{broken}
 use Rattle.classes.specs.Classes.{placesOf, placeAt, classOf}
 use Rattle.rules.specs.Rules.{groundOf}
-use Rattle.findings.specs.declared.Finding.{Finding}
 use Rattle.findings.specs.Listing.{partOf, besideOf, linesFor}
 use Rattle.dates.specs.Dates.{daysOf}
 use Rattle.heads.specs.Values.{certificateOf}

@@ -1,20 +1,18 @@
 -- How long an explanation can be: two conditions and six certificate days.
-use Prim.Native.Nat.{ℕ, _+_, _*_, _≤_}
+use Prim.Native.Nat.{ℕ, _*_, _≤_}
 use mathlib.Core.Path.{_≡_, refl}
 use mathlib.Core.Bool.{Bool, true, false}
 use mathlib.Core.List.{List, [], _∷_, _++_}
 use native.Mathlib.Omega.{arith}
-use lib.Signed.{ltZ}
 use lib.ListN.{length, length-append}
 use Rattle.readings.specs.Ranges.{meter, pitot, nozzle}
 use Rattle.grounds.specs.declared.Ground.{Ground}
 use Rattle.grounds.specs.declared.Ground.the-variants.{Silent, NoCertificate, Compared, Either, Exactly, SignedBelow}
-use Rattle.grounds.specs.Comparing.{holds, deciding}
 use Rattle.grounds.specs.Showing.{Condition, Judged, conditions, brokenOf, shown}
 use Rattle.dates.specs.declared.Day.{Day}
 use Rattle.dates.specs.declared.Sides.{Sides}
 use Rattle.dates.specs.declared.Days.{Days}
-use Rattle.dates.specs.Dates.{before, after, entriesOn, entriesOf, entries}
+use Rattle.dates.specs.Dates.{before, after}
 use Rattle.dates.proofs.Entries.{one-a-side}
 use Rattle.text.proofs.Lengths.{any-finding-short}
 use Rattle.reasons.proofs.Lengths.{condition-bytes-length, day-bytes-length, condition-text-short, day-text-short}

@@ -23,7 +23,7 @@ use Rattle.explaining.specs.declared.Explained.the-variants.{NoFinding, Because
 use Rattle.explaining.specs.Explaining.{explainedRun}
 use Rattle.explanations.specs.declared.Form.{Form}
 use Rattle.explanations.specs.Written.{written}
-use Rattle.explanations.specs.Outcomes.{ofExplained, explaining, explainingBy, Explains, ExplainsBy}
+use Rattle.explanations.specs.Outcomes.{ofExplained, explaining, Explains, ExplainsBy}
 
 -- a refusal changes no byte
 refused : {p : Printing} {number place : ℕ} (old : List ℕ) → p ≡ unprinted number place → Printed p old old (Refused number place)

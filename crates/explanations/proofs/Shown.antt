@@ -10,7 +10,7 @@ use Rattle.grounds.specs.declared.comparison.ExactComparison.{ExactComparison}
 use Rattle.grounds.specs.declared.Ground.{Ground}
 use Rattle.grounds.specs.declared.Ground.the-variants.{Silent, NoCertificate, Compared, Either, Exactly, SignedBelow}
 use Rattle.grounds.specs.Comparing.{holds, deciding}
-use Rattle.grounds.specs.Showing.{Condition, Judged, ofNumbers, ofQuotient, ofSigned, _brokenIf_, conditions, brokenOf, shown}
+use Rattle.grounds.specs.Showing.{Condition, Judged, twoNumbers, aQuotient, twoSigned, _brokenIf_, conditions, brokenOf, shown}
 use Rattle.explanations.specs.declared.Form.{Form}
 use Rattle.explanations.specs.Written.{conditionIn, conditionsIn}
 
@@ -41,28 +41,28 @@ module _ (form : Form) (rule : ℕ) (round : Bool) where
   no-certificate-text e = rw e
 
   -- two numbers, once or twice
-  pub compared-text : {g : Ground} {c : Comparison} → g ≡ Compared c → conditionsIn form rule round (shown g) ≡ conditionsIn form rule round (brokenOf ((ofNumbers 1 c brokenIf holds c) ∷ []))
+  pub compared-text : {g : Ground} {c : Comparison} → g ≡ Compared c → conditionsIn form rule round (shown g) ≡ conditionsIn form rule round (brokenOf ((twoNumbers 1 c brokenIf holds c) ∷ []))
   unfolding shown conditions
   compared-text e = rw e
 
-  pub either-text : {g : Ground} {a b : Comparison} → g ≡ Either a b → conditionsIn form rule round (shown g) ≡ conditionsIn form rule round (brokenOf ((ofNumbers 1 a brokenIf holds a) ∷ [])) ++ conditionsIn form rule round (brokenOf ((ofNumbers 2 b brokenIf holds b) ∷ []))
+  pub either-text : {g : Ground} {a b : Comparison} → g ≡ Either a b → conditionsIn form rule round (shown g) ≡ conditionsIn form rule round (brokenOf ((twoNumbers 1 a brokenIf holds a) ∷ [])) ++ conditionsIn form rule round (brokenOf ((twoNumbers 2 b brokenIf holds b) ∷ []))
   unfolding shown conditions
-  either-text {a = a} {b} e = rw e (then-others (ofNumbers 1 a) (holds a) ((ofNumbers 2 b brokenIf holds b) ∷ []))
+  either-text {a = a} {b} e = rw e (then-others (twoNumbers 1 a) (holds a) ((twoNumbers 2 b brokenIf holds b) ∷ []))
 
   -- a quotient
-  pub exact-text : {g : Ground} {c : ExactComparison} → g ≡ Exactly c → holds (deciding c) ≡ true → conditionsIn form rule round (shown g) ≡ conditionIn form rule round (ofQuotient c)
+  pub exact-text : {g : Ground} {c : ExactComparison} → g ≡ Exactly c → holds (deciding c) ≡ true → conditionsIn form rule round (shown g) ≡ conditionIn form rule round (aQuotient c)
   unfolding shown conditions
-  exact-text {c = c} e h = rw (e, h) (one-shown (ofQuotient c))
+  exact-text {c = c} e h = rw (e, h) (one-shown (aQuotient c))
 
   pub exact-kept : {g : Ground} {c : ExactComparison} → g ≡ Exactly c → holds (deciding c) ≡ false → conditionsIn form rule round (shown g) ≡ []
   unfolding shown conditions
-  exact-kept {c = c} e h = rw (e, h) (kept-back (ofQuotient c))
+  exact-kept {c = c} e h = rw (e, h) (kept-back (aQuotient c))
 
   -- two signed numbers
-  pub signed-text : {g : Ground} {left right : ℤ} → g ≡ SignedBelow left right → ltZ left right ≡ true → conditionsIn form rule round (shown g) ≡ conditionIn form rule round (ofSigned left right)
+  pub signed-text : {g : Ground} {left right : ℤ} → g ≡ SignedBelow left right → ltZ left right ≡ true → conditionsIn form rule round (shown g) ≡ conditionIn form rule round (twoSigned left right)
   unfolding shown conditions
-  signed-text {left = left} {right} e h = rw (e, h) (one-shown (ofSigned left right))
+  signed-text {left = left} {right} e h = rw (e, h) (one-shown (twoSigned left right))
 
   pub signed-kept : {g : Ground} {left right : ℤ} → g ≡ SignedBelow left right → ltZ left right ≡ false → conditionsIn form rule round (shown g) ≡ []
   unfolding shown conditions
-  signed-kept {left = left} {right} e h = rw (e, h) (kept-back (ofSigned left right))
+  signed-kept {left = left} {right} e h = rw (e, h) (kept-back (twoSigned left right))

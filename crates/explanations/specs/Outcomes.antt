@@ -28,18 +28,18 @@ ofExplained form NoFinding room = unprinted unknownFinding 0
 ofExplained form (Because e) room = ifFits (written form e) room
 
 -- 10: no run of that number
-abbrev pub ofRun : Form → Figure → List ℕ → Which → ℕ → ℕ → ℕ → Printing
-ofRun form fig s NoRun rule place room = unprinted unknownRun 0
-ofRun form fig s (Index k) rule place room = ofExplained form (explainedRun fig s k rule place) room
+abbrev pub ofNamedRun : Form → Figure → List ℕ → Which → ℕ → ℕ → ℕ → Printing
+ofNamedRun form fig s NoRun rule place room = unprinted unknownRun 0
+ofNamedRun form fig s (Index k) rule place room = ofExplained form (explainedRun fig s k rule place) room
 
 -- the reader's 1 to 8 come first
-abbrev pub ofTrouble : Form → Trouble → Figure → List ℕ → ℕ → ℕ → ℕ → ℕ → Printing
-ofTrouble form (At number at) fig s run rule place room = unprinted number at
-ofTrouble form Clear fig s run rule place room = ofRun form fig s (runNamed (runOf s) run (runCountOf s)) rule place room
+abbrev pub unlessJobTrouble : Form → Trouble → Figure → List ℕ → ℕ → ℕ → ℕ → ℕ → Printing
+unlessJobTrouble form (At number at) fig s run rule place room = unprinted number at
+unlessJobTrouble form Clear fig s run rule place room = ofNamedRun form fig s (runNamed (runOf s) run (runCountOf s)) rule place room
 
 -- From a figure, the job's bytes, the run's number, the rule, the place and the output's length
 unfoldable pub explaining : Form → Figure → List ℕ → ℕ → ℕ → ℕ → ℕ → Printing
-explaining form fig s run rule place room = ofTrouble form (jobTrouble s) fig s run rule place room
+explaining form fig s run rule place room = unlessJobTrouble form (jobTrouble s) fig s run rule place room
 
 -- From what is supplied for a figure: 14 before the job is read
 abbrev pub explainingBy : Form → Supplied → List ℕ → ℕ → ℕ → ℕ → ℕ → Printing

@@ -19,7 +19,7 @@ use text::runs::put_finding;
 ghost use mathlib.Core.List.{[], _∷_};
 ghost use Rattle.dates.specs.declared.Day.the-variants.{On, NoneSoDated};
 ghost use Rattle.grounds.specs.Comparing.{holds};
-ghost use Rattle.grounds.specs.Showing.{ofNumbers, ofQuotient, ofSigned, brokenOf, _brokenIf_, shown};
+ghost use Rattle.grounds.specs.Showing.{twoNumbers, aQuotient, twoSigned, brokenOf, _brokenIf_, shown};
 ghost use Rattle.characters.specs.Writing.{Room, Wrote};
 ghost use Rattle.explanations.specs.Written.{headIn, conditionIn, conditionsIn, dayIn, sidesIn, daysIn, written};
 
@@ -33,8 +33,8 @@ fn put_numbers(
     which: u8,
     c: Comparison,
 ) -> usize
-    requires { ⌜ Room (now out) at (conditionIn form rule round (ofNumbers which c)) ⌝ }
-    ensures { λ r. ⌜ Wrote (now (out .entry)) at (conditionIn form rule round (ofNumbers which c)) (now (out .exit)) r ⌝ }
+    requires { ⌜ Room (now out) at (conditionIn form rule round (twoNumbers which c)) ⌝ }
+    ensures { λ r. ⌜ Wrote (now (out .entry)) at (conditionIn form rule round (twoNumbers which c)) (now (out .exit)) r ⌝ }
 {
     let way = c.way;
     match form {
@@ -52,8 +52,8 @@ fn put_exactly(
     round: bool,
     c: ExactComparison,
 ) -> usize
-    requires { ⌜ Room (now out) at (conditionIn form rule round (ofQuotient c)) ⌝ }
-    ensures { λ r. ⌜ Wrote (now (out .entry)) at (conditionIn form rule round (ofQuotient c)) (now (out .exit)) r ⌝ }
+    requires { ⌜ Room (now out) at (conditionIn form rule round (aQuotient c)) ⌝ }
+    ensures { λ r. ⌜ Wrote (now (out .entry)) at (conditionIn form rule round (aQuotient c)) (now (out .exit)) r ⌝ }
 {
     let way = c.way;
     match form {
@@ -72,8 +72,8 @@ fn put_below(
     left: i64,
     right: i64,
 ) -> usize
-    requires { ⌜ Room (now out) at (conditionIn form rule round (ofSigned left right)) ⌝ }
-    ensures { λ r. ⌜ Wrote (now (out .entry)) at (conditionIn form rule round (ofSigned left right)) (now (out .exit)) r ⌝ }
+    requires { ⌜ Room (now out) at (conditionIn form rule round (twoSigned left right)) ⌝ }
+    ensures { λ r. ⌜ Wrote (now (out .entry)) at (conditionIn form rule round (twoSigned left right)) (now (out .exit)) r ⌝ }
 {
     match form {
         Form::Bytes => bytes::put_condition(
@@ -100,8 +100,8 @@ fn put_if_broken(
     which: u8,
     c: Comparison,
 ) -> usize
-    requires { ⌜ Room (now out) at (conditionsIn form rule round (brokenOf ((ofNumbers which c brokenIf holds c) ∷ []))) ⌝ }
-    ensures { λ r. ⌜ Wrote (now (out .entry)) at (conditionsIn form rule round (brokenOf ((ofNumbers which c brokenIf holds c) ∷ []))) (now (out .exit)) r ⌝ }
+    requires { ⌜ Room (now out) at (conditionsIn form rule round (brokenOf ((twoNumbers which c brokenIf holds c) ∷ []))) ⌝ }
+    ensures { λ r. ⌜ Wrote (now (out .entry)) at (conditionsIn form rule round (brokenOf ((twoNumbers which c brokenIf holds c) ∷ []))) (now (out .exit)) r ⌝ }
 {
     if !c.holds() {
         return at;

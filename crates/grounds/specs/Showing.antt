@@ -24,18 +24,18 @@ pub record Condition : Type 0 where
   pub limit : ℤ
 
 -- two whole numbers
-abbrev pub ofNumbers : ℕ → Comparison → Condition
-ofNumbers which c =
+abbrev pub twoNumbers : ℕ → Comparison → Condition
+twoNumbers which c =
     record { which = which; way = c .way; left = pos (c .left); right = pos (c .right); quotient = false; remainder = pos 0; limit = pos 0 }
 
 -- a quotient and its remainder, against a limit and 0
-abbrev pub ofQuotient : ExactComparison → Condition
-ofQuotient c =
+abbrev pub aQuotient : ExactComparison → Condition
+aQuotient c =
     record { which = 1; way = c .way; left = pos (c .quotient); right = pos (c .limit); quotient = true; remainder = pos (c .remainder); limit = pos 0 }
 
 -- two signed numbers
-abbrev pub ofSigned : ℤ → ℤ → Condition
-ofSigned left right =
+abbrev pub twoSigned : ℤ → ℤ → Condition
+twoSigned left right =
     record { which = 1; way = Below; left = left; right = right; quotient = false; remainder = pos 0; limit = pos 0 }
 
 -- a condition, and whether the rule is broken by it
@@ -51,10 +51,10 @@ condition brokenIf broken = record { condition = condition; broken = broken }
 unfoldable pub conditions : Ground → List Judged
 conditions Silent = []
 conditions NoCertificate = []
-conditions (Compared c) = (ofNumbers 1 c brokenIf holds c) ∷ []
-conditions (Either a b) = (ofNumbers 1 a brokenIf holds a) ∷ (ofNumbers 2 b brokenIf holds b) ∷ []
-conditions (Exactly c) = (ofQuotient c brokenIf holds (deciding c)) ∷ []
-conditions (SignedBelow left right) = (ofSigned left right brokenIf ltZ left right) ∷ []
+conditions (Compared c) = (twoNumbers 1 c brokenIf holds c) ∷ []
+conditions (Either a b) = (twoNumbers 1 a brokenIf holds a) ∷ (twoNumbers 2 b brokenIf holds b) ∷ []
+conditions (Exactly c) = (aQuotient c brokenIf holds (deciding c)) ∷ []
+conditions (SignedBelow left right) = (twoSigned left right brokenIf ltZ left right) ∷ []
 
 -- those of them that are broken
 unfoldable pub brokenOf : List Judged → List Condition

@@ -11,7 +11,7 @@ use readings::certificates::CertificateKind;
 use wording::put_words;
 ghost use lib.IntN.{pos};
 ghost use Rattle.dates.specs.declared.Day.the-variants.{On, NoneSoDated};
-ghost use Rattle.grounds.specs.Showing.{ofNumbers, ofQuotient, ofSigned};
+ghost use Rattle.grounds.specs.Showing.{twoNumbers, aQuotient, twoSigned};
 ghost use Rattle.characters.specs.Writing.{Room, Wrote};
 ghost use mathlib.Core.Bool.{true};
 ghost use Rattle.reasons.specs.Text.{wayText, numberText, meaningText, conditionText, kindText, sideText, dayText};
@@ -57,8 +57,8 @@ pub fn put_numbers(
     which: u8,
     c: Comparison,
 ) -> usize
-    requires { ⌜ Room (now out) at (conditionText rule round (ofNumbers which c)) ⌝ }
-    ensures { λ r. ⌜ Wrote (now (out .entry)) at (conditionText rule round (ofNumbers which c)) (now (out .exit)) r ⌝ }
+    requires { ⌜ Room (now out) at (conditionText rule round (twoNumbers which c)) ⌝ }
+    ensures { λ r. ⌜ Wrote (now (out .entry)) at (conditionText rule round (twoNumbers which c)) (now (out .exit)) r ⌝ }
 {
     let way = c.way;
     let a = put_word(out, at, b"  COMPARED ");
@@ -70,8 +70,8 @@ pub fn put_numbers(
 
 // A condition of a quotient with its remainder.
 pub fn put_exactly(out: &mut [u8], at: usize, rule: u8, round: bool, c: ExactComparison) -> usize
-    requires { ⌜ Room (now out) at (conditionText rule round (ofQuotient c)) ⌝ }
-    ensures { λ r. ⌜ Wrote (now (out .entry)) at (conditionText rule round (ofQuotient c)) (now (out .exit)) r ⌝ }
+    requires { ⌜ Room (now out) at (conditionText rule round (aQuotient c)) ⌝ }
+    ensures { λ r. ⌜ Wrote (now (out .entry)) at (conditionText rule round (aQuotient c)) (now (out .exit)) r ⌝ }
 {
     let way = c.way;
     let a = put_word(out, at, b"  COMPARED ");
@@ -83,8 +83,8 @@ pub fn put_exactly(out: &mut [u8], at: usize, rule: u8, round: bool, c: ExactCom
 
 // A condition of two signed numbers, the left one below the right one.
 pub fn put_below(out: &mut [u8], at: usize, rule: u8, round: bool, left: i64, right: i64) -> usize
-    requires { ⌜ Room (now out) at (conditionText rule round (ofSigned left right)) ⌝ }
-    ensures { λ r. ⌜ Wrote (now (out .entry)) at (conditionText rule round (ofSigned left right)) (now (out .exit)) r ⌝ }
+    requires { ⌜ Room (now out) at (conditionText rule round (twoSigned left right)) ⌝ }
+    ensures { λ r. ⌜ Wrote (now (out .entry)) at (conditionText rule round (twoSigned left right)) (now (out .exit)) r ⌝ }
 {
     let a = put_word(out, at, b"  COMPARED ");
     let b = put_signed(out, a, left);

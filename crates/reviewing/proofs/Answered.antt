@@ -26,7 +26,7 @@ use Rattle.explaining.specs.declared.Explained.the-variants.{NoFinding, Because
 use Rattle.explaining.specs.Explaining.{explanation, explained, explainedRun}
 use Rattle.explanations.specs.declared.Form.{Form}
 use Rattle.explanations.specs.Written.{written}
-use Rattle.explanations.specs.Outcomes.{ofExplained, ofRun, ofTrouble, explaining, explainingBy}
+use Rattle.explanations.specs.Outcomes.{ofExplained, ofNamedRun, unlessJobTrouble, explaining, explainingBy}
 use Rattle.demands.specs.FigureFile.{Lent, supplied, figureIn, GoodLent}
 use Rattle.demands.specs.Demands.{OnlyRun}
 use Rattle.demands.proofs.FigureFile.{lent-clear, clear-lent, bad-file, bad-lent}
@@ -34,8 +34,8 @@ use Rattle.demands.proofs.GoodParts.{clear-job, good-job}
 use Rattle.demands.proofs.ByTable.{row-told, told-row}
 use Rattle.demands.proofs.NamedRun.{only-run, found-by-number, not-found}
 use Rattle.demands.proofs.Apart.{answers-apart}
-use Rattle.reviewing.specs.Shown.{findingsIn, groundIn}
-use Rattle.reviewing.specs.Asking.{Asking, KeepsPromise, Asked, reasonOf, RowFor, row14, ofFile, row10, row15, row9, RefusedFor, ExplainsRun, CameOf, byRow, toFinding, AskedAndAnswered}
+use Rattle.reviewing.specs.Shown.{findingsIn, groundOfRun}
+use Rattle.reviewing.specs.Asking.{Asking, KeepsPromise, Asked, reasonOf, RowFor, rowFor14, rowForFile, rowFor10, rowFor15, rowFor9, RefusedFor, ExplainsRun, CameOf, cameByRow, cameToFinding, AskedAndAnswered}
 use Rattle.reviewing.proofs.Placed.{from-one-table}
 
 -- A run that has the finding is explained, and one that does not have it is not
@@ -46,17 +46,17 @@ module _ (fig : Figure) (s : List ℕ) (k rule place : ℕ) where
 
   pub no-reason : (HasFinding (findingsIn fig s k) rule place → ⊥) → explainedRun fig s k rule place ≡ NoFinding
   unfolding explainedRun explained chosenIn
-  no-reason none = rw (stands (broken (groundIn fig s k rule place)) refl)
+  no-reason none = rw (stands (broken (groundOfRun fig s k rule place)) refl)
     where
-      stands : (b : Bool) → broken (groundIn fig s k rule place) ≡ b → broken (groundIn fig s k rule place) ≡ false
+      stands : (b : Bool) → broken (groundOfRun fig s k rule place) ≡ b → broken (groundOfRun fig s k rule place) ≡ false
       stands true e = absurd (none (from-one-table fig s k rule place .finding .1 e))
       stands false e = e
 
   -- whether it has it can be told
   pub has-or-not : {P : Type 0} → (HasFinding (findingsIn fig s k) rule place → P) → ((HasFinding (findingsIn fig s k) rule place → ⊥) → P) → P
-  has-or-not {P} has hasn't = go (broken (groundIn fig s k rule place)) refl
+  has-or-not {P} has hasn't = go (broken (groundOfRun fig s k rule place)) refl
     where
-      go : (b : Bool) → broken (groundIn fig s k rule place) ≡ b → P
+      go : (b : Bool) → broken (groundOfRun fig s k rule place) ≡ b → P
       go true e = has (from-one-table fig s k rule place .finding .1 e)
       go false e = hasn't (λ h. true≢false (sym (from-one-table fig s k rule place .finding .0 h) ∙ e))
 
@@ -65,14 +65,14 @@ module _ (form : Form) (s : List ℕ) (run : ℕ) (clear : jobTrouble s ≡ Clea
   pub of-only-run : (k : ℕ) → OnlyRun s run k → explaining form fig s run rule place room ≡ ofExplained form (explainedRun fig s k rule place) room
   unfolding explaining
   of-only-run k only =
-      ap (λ t. ofTrouble form t fig s run rule place room) clear
-      ∙ ap (λ which. ofRun form fig s which rule place room) (found-by-number s run clear k (only .inside) (only .number))
+      ap (λ t. unlessJobTrouble form t fig s run rule place room) clear
+      ∙ ap (λ which. ofNamedRun form fig s which rule place room) (found-by-number s run clear k (only .inside) (only .number))
 
   of-no-run : ((k : ℕ) → k < runCountOf s → runOf s k .header .number ≡ run → ⊥) → explaining form fig s run rule place room ≡ unprinted 10 0
   unfolding explaining
   of-no-run none =
-      ap (λ t. ofTrouble form t fig s run rule place room) clear
-      ∙ ap (λ which. ofRun form fig s which rule place room) (not-found s run clear none)
+      ap (λ t. unlessJobTrouble form t fig s run rule place room) clear
+      ∙ ap (λ which. ofNamedRun form fig s which rule place room) (not-found s run clear none)
 
 module _ (a : Asking) where
   abbrev l : Lent
@@ -106,11 +106,11 @@ module _ (a : Asking) where
   -- where a row applies, that refusal came of the call
   row-came : {n p : ℕ} → RowFor a n p → came ≡ unprinted n p
   unfolding explaining ifFits
-  row-came (row14 f is bad) = ap (λ t. unprintedIfBad t (explaining (a .form) (figureIn l) s (a .run) (a .rule) (a .place) room)) (bad-file l f is bad)
-  row-came (ofFile figure row) = by-good-lent figure ∙ ap (λ t. ofTrouble (a .form) t (figureIn l) s (a .run) (a .rule) (a .place) room) (row-told s row)
-  row-came (row10 figure good none) = by-good-lent figure ∙ of-no-run (a .form) s (a .run) (good-job s good) (figureIn l) (a .rule) (a .place) room none
-  row-came (row15 figure good k only none) = lacking-it figure (good-job s good) k only none
-  row-came (row9 figure good k only has short) = having-it figure (good-job s good) k only has ∙ rw (lt-ltb _ _ short)
+  row-came (rowFor14 f is bad) = ap (λ t. unprintedIfBad t (explaining (a .form) (figureIn l) s (a .run) (a .rule) (a .place) room)) (bad-file l f is bad)
+  row-came (rowForFile figure row) = by-good-lent figure ∙ ap (λ t. unlessJobTrouble (a .form) t (figureIn l) s (a .run) (a .rule) (a .place) room) (row-told s row)
+  row-came (rowFor10 figure good none) = by-good-lent figure ∙ of-no-run (a .form) s (a .run) (good-job s good) (figureIn l) (a .rule) (a .place) room none
+  row-came (rowFor15 figure good k only none) = lacking-it figure (good-job s good) k only none
+  row-came (rowFor9 figure good k only has short) = having-it figure (good-job s good) k only has ∙ rw (lt-ltb _ _ short)
 
   module _ (kept : KeepsPromise a) where
     -- a refusal is answered, and changes no byte
@@ -126,7 +126,7 @@ module _ (a : Asking) where
     row-answered n p row = refused-for (row-came row)
 
     by-row : (n p : ℕ) → RowFor a n p → CameOf a
-    by-row n p row = byRow n p row (row-answered n p row)
+    by-row n p row = cameByRow n p row (row-answered n p row)
 
     -- an explanation is handed over where the output suffices
     handed : GoodLent l → jobTrouble s ≡ Clear → (k : ℕ) → OnlyRun s (a .run) k → Asked a k → length (written (a .form) (reasonOf a k)) ≤ room → ExplainsRun a k
@@ -144,28 +144,28 @@ module _ (a : Asking) where
         }
 
     by-room : GoodLent l → jobTrouble s ≡ Clear → (k : ℕ) → OnlyRun s (a .run) k → Asked a k → (b : Bool) → ltb room (length (written (a .form) (reasonOf a k))) ≡ b → CameOf a
-    by-room figure clear k only has true e = by-row 9 0 (row9 figure (clear-job s clear) k only has (ltb-true _ _ e))
-    by-room figure clear k only has false e = toFinding k (handed figure clear k only has (ltb-false _ _ e))
+    by-room figure clear k only has true e = by-row 9 0 (rowFor9 figure (clear-job s clear) k only has (ltb-true _ _ e))
+    by-room figure clear k only has false e = cameToFinding k (handed figure clear k only has (ltb-false _ _ e))
 
     by-finding : GoodLent l → jobTrouble s ≡ Clear → (k : ℕ) → OnlyRun s (a .run) k → CameOf a
     by-finding figure clear k only =
         has-or-not (figureIn l) s k (a .rule) (a .place)
         (λ has. by-room figure clear k only has _ refl)
-        (λ none. by-row 15 0 (row15 figure (clear-job s clear) k only none))
+        (λ none. by-row 15 0 (rowFor15 figure (clear-job s clear) k only none))
 
     by-number : GoodLent l → jobTrouble s ≡ Clear → (which : Which) → runNamed (runOf s) (a .run) (runCountOf s) ≡ which → CameOf a
-    by-number figure clear NoRun e = by-row 10 0 (row10 figure (clear-job s clear) (none-named (runOf s) (a .run) (runCountOf s) e))
+    by-number figure clear NoRun e = by-row 10 0 (rowFor10 figure (clear-job s clear) (none-named (runOf s) (a .run) (runCountOf s) e))
     by-number figure clear (Index k) e =
         by-finding figure clear k (only-run s (a .run) clear k (found-inside (runOf s) (a .run) (runCountOf s) e) (named (runOf s) (a .run) (runCountOf s) e))
 
     by-trouble : GoodLent l → (t : Trouble) → jobTrouble s ≡ t → CameOf a
-    by-trouble figure (At n p) e = by-row n p (ofFile figure (told-row s e))
+    by-trouble figure (At n p) e = by-row n p (rowForFile figure (told-row s e))
     by-trouble figure Clear e = by-number figure e (runNamed (runOf s) (a .run) (runCountOf s)) refl
 
     by-figure : (t : Trouble) → supplied l .trouble ≡ t → CameOf a
     by-figure (At n p) e =
         let told = bad-lent l e in
-        by-row 14 p (row14 (told .bytes) (told .is) (told .bad))
+        by-row 14 p (rowFor14 (told .bytes) (told .is) (told .bad))
     by-figure Clear e = by-trouble (clear-lent l e) (jobTrouble s) refl
 
     -- Every call to explain

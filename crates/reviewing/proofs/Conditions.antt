@@ -1,9 +1,9 @@
 -- Of every ground: what is shown holds as it is shown exactly when it is broken, and is all that is broken.
-use Prim.Native.Nat.{ℕ, _≤_}
-use mathlib.Core.Path.{_≡_, refl, sym, _∙_, ap}
+use Prim.Native.Nat.{ℕ}
+use mathlib.Core.Path.{_≡_, refl, sym, ap}
 use mathlib.Core.Bool.{Bool, true, false, true≢false, cond, not, _||_}
 use mathlib.Core.List.{List, [], _∷_}
-use mathlib.Core.Logic.{_⊎_, inl, inr, _↔_}
+use mathlib.Core.Logic.{_⊎_, inl, inr}
 use native.Mathlib.Nat.{le-refl}
 use borrow.Author.Tests.{eqb-true, le-ltb, eq-eqb}
 use lib.Dec.{eqb, ltb}
@@ -17,8 +17,8 @@ use Rattle.grounds.specs.declared.Ground.{Ground}
 use Rattle.grounds.specs.declared.Ground.the-variants.{Silent, NoCertificate, Compared, Either, Exactly, SignedBelow}
 use Rattle.grounds.specs.Comparing.{standsTo, holds, compare, deciding}
 use Rattle.grounds.specs.Grounds.{broken}
-use Rattle.grounds.specs.Showing.{Condition, Judged, ofNumbers, ofQuotient, ofSigned, conditions, brokenOf, shown}
-use Rattle.reviewing.specs.Shown.{equalZ, standsToZ, holdsAsShown, In, ShownExactly}
+use Rattle.grounds.specs.Showing.{Condition, Judged, twoNumbers, aQuotient, twoSigned, conditions, brokenOf, shown}
+use Rattle.reviewing.specs.Shown.{standsToZ, holdsAsShown, Among, ShownExactly}
 
 -- Numbers that are not negative stand to each other as whole numbers do
 as-whole : (way : Way) (a b : ℕ) → standsToZ way (pos a) (pos b) ≡ standsTo way a b
@@ -34,7 +34,7 @@ as-nothing Above a = sym (le-ltb a a (le-refl a))
 as-nothing Same a = sym (eq-eqb a a refl)
 as-nothing Differs a = ap not (sym (eq-eqb a a refl))
 
-numbers-hold : (which : ℕ) (c : Comparison) → holdsAsShown (ofNumbers which c) ≡ holds c
+numbers-hold : (which : ℕ) (c : Comparison) → holdsAsShown (twoNumbers which c) ≡ holds c
 unfolding holds
 numbers-hold which c = go (eqb (c .left) (c .right)) refl
   where
@@ -43,7 +43,7 @@ numbers-hold which c = go (eqb (c .left) (c .right)) refl
     go false e = rw e (as-whole (c .way) (c .left) (c .right))
 
 -- a quotient decides, and its remainder where it equals its limit
-quotient-holds : (c : ExactComparison) → holdsAsShown (ofQuotient c) ≡ holds (deciding c)
+quotient-holds : (c : ExactComparison) → holdsAsShown (aQuotient c) ≡ holds (deciding c)
 unfolding holds deciding
 quotient-holds c = go (eqb (c .quotient) (c .limit))
   where
@@ -66,14 +66,14 @@ not-above a b = go (eqb a b) refl
     go true e = rw (e, eqb-true a b e) (sym (le-ltb b b (le-refl b)))
     go false e = rw e
 
-signed-hold : (left right : ℤ) → holdsAsShown (ofSigned left right) ≡ ltZ left right
+signed-hold : (left right : ℤ) → holdsAsShown (twoSigned left right) ≡ ltZ left right
 signed-hold (pos a) (pos b) = not-below a b
 signed-hold (pos a) (negsuc b) = refl
 signed-hold (negsuc a) (pos b) = refl
 signed-hold (negsuc a) (negsuc b) = not-above a b
 
 -- a condition's comparison holds as it is shown exactly when the condition is broken
-hold-as-shown : (g : Ground) (j : Judged) → In j (conditions g) → holdsAsShown (j .condition) ≡ j .broken
+hold-as-shown : (g : Ground) (j : Judged) → Among j (conditions g) → holdsAsShown (j .condition) ≡ j .broken
 unfolding conditions
 hold-as-shown Silent j none = absurd none
 hold-as-shown NoCertificate j none = absurd none
@@ -91,9 +91,9 @@ hold-as-shown (SignedBelow left right) j (inr none) = absurd none
 
 -- one that is broken, and what it shows
 abbrev BrokenOne : List Judged → Condition → Type 0
-BrokenOne js c = (j : Judged) × (In j js × ((j .condition ≡ c) × (j .broken ≡ true)))
+BrokenOne js c = (j : Judged) × (Among j js × ((j .condition ≡ c) × (j .broken ≡ true)))
 
-only-broken : (js : List Judged) (c : Condition) → In c (brokenOf js) → BrokenOne js c
+only-broken : (js : List Judged) (c : Condition) → Among c (brokenOf js) → BrokenOne js c
 unfolding brokenOf
 only-broken [] c none = absurd none
 only-broken (j ∷ js) c shown = go (λ h. behind (only-broken js c h)) (j .broken) refl shown
@@ -101,31 +101,31 @@ only-broken (j ∷ js) c shown = go (λ h. behind (only-broken js c h)) (j .brok
     behind : BrokenOne js c → BrokenOne (j ∷ js) c
     behind (k, (inside, is)) = (k, (inr inside, is))
 
-    first : (In c (brokenOf js) → BrokenOne (j ∷ js) c) → j .broken ≡ true → (c ≡ j .condition) ⊎ In c (brokenOf js) → BrokenOne (j ∷ js) c
+    first : (Among c (brokenOf js) → BrokenOne (j ∷ js) c) → j .broken ≡ true → (c ≡ j .condition) ⊎ Among c (brokenOf js) → BrokenOne (j ∷ js) c
     first rest e (inl same) = (j, (inl refl, (sym same, e)))
     first rest e (inr more) = rest more
 
-    go : (In c (brokenOf js) → BrokenOne (j ∷ js) c) → (b : Bool) → j .broken ≡ b → In c (cond (j .broken) (j .condition ∷ brokenOf js) (brokenOf js)) → BrokenOne (j ∷ js) c
+    go : (Among c (brokenOf js) → BrokenOne (j ∷ js) c) → (b : Bool) → j .broken ≡ b → Among c (cond (j .broken) (j .condition ∷ brokenOf js) (brokenOf js)) → BrokenOne (j ∷ js) c
     go rest true e h = first rest e (rw e at h)
     go rest false e h = rest (rw e at h)
 
-all-broken : (js : List Judged) (j : Judged) → In j js → j .broken ≡ true → In (j .condition) (brokenOf js)
+all-broken : (js : List Judged) (j : Judged) → Among j js → j .broken ≡ true → Among (j .condition) (brokenOf js)
 unfolding brokenOf
 all-broken [] j none e = absurd none
 all-broken (k ∷ js) j (inl same) e = rw (same, rw same at e) (inl refl)
 all-broken (k ∷ js) j (inr more) e = go (all-broken js j more e) (k .broken) refl
   where
-    go : In (j .condition) (brokenOf js) → (b : Bool) → k .broken ≡ b → In (j .condition) (cond (k .broken) (k .condition ∷ brokenOf js) (brokenOf js))
+    go : Among (j .condition) (brokenOf js) → (b : Bool) → k .broken ≡ b → Among (j .condition) (cond (k .broken) (k .condition ∷ brokenOf js) (brokenOf js))
     go rest true f = rw f (inr rest)
     go rest false f = rw f rest
 
 -- A rule is broken exactly when a certificate is missing or a condition is broken
 
 abbrev Reason : Ground → Type 0
-Reason g = (g ≡ NoCertificate) ⊎ ((c : Condition) × In c (shown g))
+Reason g = (g ≡ NoCertificate) ⊎ ((c : Condition) × Among c (shown g))
 
 -- one that is broken is shown
-reason-of : (g : Ground) (j : Judged) → In j (conditions g) → j .broken ≡ true → Reason g
+reason-of : (g : Ground) (j : Judged) → Among j (conditions g) → j .broken ≡ true → Reason g
 unfolding shown
 reason-of g j inside e = inr (j .condition, all-broken (conditions g) j inside e)
 
@@ -141,8 +141,8 @@ broken-reason (Compared c) e = reason-of (Compared c) _ (inl refl) e
 broken-reason (Either a b) e = go (either-true (holds a) (holds b) e)
   where
     go : (holds a ≡ true) ⊎ (holds b ≡ true) → Reason (Either a b)
-    go (inl h) = reason-of (Either a b) (record { condition = ofNumbers 1 a; broken = holds a }) (inl refl) h
-    go (inr h) = reason-of (Either a b) (record { condition = ofNumbers 2 b; broken = holds b }) (inr (inl refl)) h
+    go (inl h) = reason-of (Either a b) (record { condition = twoNumbers 1 a; broken = holds a }) (inl refl) h
+    go (inr h) = reason-of (Either a b) (record { condition = twoNumbers 2 b; broken = holds b }) (inr (inl refl)) h
 broken-reason (Exactly c) e = reason-of (Exactly c) _ (inl refl) e
 broken-reason (SignedBelow left right) e = reason-of (SignedBelow left right) _ (inl refl) e
 
@@ -150,7 +150,7 @@ or-right : (a : Bool) → (a || true) ≡ true
 or-right true = refl
 or-right false = refl
 
-broken-by : (g : Ground) (j : Judged) → In j (conditions g) → j .broken ≡ true → broken g ≡ true
+broken-by : (g : Ground) (j : Judged) → Among j (conditions g) → j .broken ≡ true → broken g ≡ true
 unfolding broken conditions
 broken-by Silent j none e = absurd none
 broken-by NoCertificate j inside e = refl

@@ -4,3 +4,8 @@ pub mod Placed
 pub mod SiteNumbers
 pub mod Answered
 pub mod TwoReasons
+pub mod FitsShown
+pub mod FitsPoints
+pub mod FitsGrounds
+pub mod FitsLines
+pub mod Fits

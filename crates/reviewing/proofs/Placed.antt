@@ -1,14 +1,12 @@
 -- Over every run, rule and place: the run has the finding exactly when what its rule goes by there is broken.
-use Prim.Native.Nat.{ℕ, _+_, _-_, _≤_, _<_}
+use Prim.Native.Nat.{ℕ, _+_, _≤_, _<_}
 use mathlib.Core.Path.{_≡_, refl, sym, _∙_, ap}
 use mathlib.Core.Bool.{Bool, true, false, true≢false, cond, _||_}
-use mathlib.Core.List.{List, [], _∷_}
-use mathlib.Core.Logic.{_↔_}
+use mathlib.Core.List.{List, []}
 use native.Mathlib.Decide.{decLt}
 use native.Mathlib.Omega.{arith}
 use borrow.Author.Tests.{eqb-true, ltb-true, ltb-false, eqb-false}
 use lib.Dec.{eqb, ltb}
-use Rattle.grids.specs.Grids.{oneOf}
 use Rattle.records.specs.declared.Counts.{Counts}
 use Rattle.records.specs.declared.Run.{Run}
 use Rattle.lines.specs.declared.Lines.{Lines}
@@ -24,12 +22,12 @@ use Rattle.rules.specs.Rules.{lastRule, table, groundOf}
 use Rattle.opening.specs.Opening.{versionOf}
 use Rattle.job.specs.Places.{runOf}
 use Rattle.reduction.specs.Reducing.{chosenIn}
-use Rattle.findings.specs.Listing.{partOf, besideOf, brokenAt, findings, findingsFor, linesFor, Breaks, HasFinding}
+use Rattle.findings.specs.Listing.{partOf, besideOf, brokenAt, findingsFor, linesFor, Breaks}
 use Rattle.findings.proofs.Members.{listed-exactly}
 use Rattle.explaining.specs.Explaining.{indexOf, groundAt, groundFor}
 use Rattle.explaining.proofs.Speaking.{spoken, silent-behind, silent-elsewhere}
 use Rattle.explaining.proofs.Because.{beyond-table}
-use Rattle.reviewing.specs.Shown.{findingsIn, groundIn, FromOneTable}
+use Rattle.reviewing.specs.Shown.{groundOfRun, FromOneTable}
 use Rattle.reviewing.proofs.Conditions.{shown-exactly}
 
 -- the index of a rule's place is one less, or 0 where the rule is about the whole run
@@ -109,5 +107,5 @@ from-one-table fig s k rule place =
     let listed = listed-exactly v fig r ch l rule place in
     record {
       finding = (λ h. by-ground fig r ch l rule place (listed .0 h), λ e. listed .1 (breaks-there fig r ch l rule place e));
-      exactly = shown-exactly (groundIn fig s k rule place);
+      exactly = shown-exactly (groundOfRun fig s k rule place);
     }

@@ -1,6 +1,6 @@
 -- The numbers of rules 7 and 8, round and rectangular.
-use Prim.Native.Nat.{ℕ, _+_, _*_}
-use mathlib.Core.Path.{_≡_, refl, sym, _∙_, ap}
+use Prim.Native.Nat.{_+_, _*_}
+use mathlib.Core.Path.{_≡_, refl, ap}
 use native.Mathlib.Nat.{mul-comm, mul-one}
 use native.Mathlib.Omega.{arith}
 use lib.IntN.{pos}

@@ -55,18 +55,18 @@ reasonOf a k =
 -- then 9
 pub data RowFor (a : Asking) : ℕ → ℕ → Type 0 where
   -- 14: a figure in trouble; its first field in trouble, or the file's length
-  row14 : (f : List ℕ) → a .figure ≡ file f → {place : ℕ} → FirstBad 14 place (figureRows f) → RowFor a 14 place
-  ofFile : GoodLent (a .figure) → {number place : ℕ} → FileRefused (a .job) number place → RowFor a number place
+  rowFor14 : (f : List ℕ) → a .figure ≡ file f → {place : ℕ} → FirstBad 14 place (figureRows f) → RowFor a 14 place
+  rowForFile : GoodLent (a .figure) → {number place : ℕ} → FileRefused (a .job) number place → RowFor a number place
   -- 10: no run of that number; 0
-  row10 :
+  rowFor10 :
       GoodLent (a .figure)
       → GoodJob (a .job)
       → ((k : ℕ) → k < runCountOf (a .job) → numberOf (a .job) k ≡ a .run → ⊥)
       → RowFor a 10 0
   -- 15: the run does not have that finding; 0
-  row15 : GoodLent (a .figure) → GoodJob (a .job) → (k : ℕ) → OnlyRun (a .job) (a .run) k → (Asked a k → ⊥) → RowFor a 15 0
+  rowFor15 : GoodLent (a .figure) → GoodJob (a .job) → (k : ℕ) → OnlyRun (a .job) (a .run) k → (Asked a k → ⊥) → RowFor a 15 0
   -- 9: the lent output is too short; 0
-  row9 :
+  rowFor9 :
       GoodLent (a .figure)
       → GoodJob (a .job)
       → (k : ℕ)
@@ -91,8 +91,8 @@ pub record ExplainsRun (a : Asking) (k : ℕ) : Type 0 where
   pub out : a .outOut ≡ spliced (a .outIn) 0 (written (a .form) (reasonOf a k))
 
 pub data CameOf (a : Asking) : Type 0 where
-  byRow : (number place : ℕ) → RowFor a number place → RefusedFor a number place → CameOf a
-  toFinding : (k : ℕ) → ExplainsRun a k → CameOf a
+  cameByRow : (number place : ℕ) → RowFor a number place → RefusedFor a number place → CameOf a
+  cameToFinding : (k : ℕ) → ExplainsRun a k → CameOf a
 
 -- Demand 1 of the call that explains
 pub record AskedAndAnswered (a : Asking) : Type 0 where

@@ -46,33 +46,33 @@ abbrev pub holdsAsShown : Condition → Bool
 holdsAsShown c = cond (equalZ (c .left) (c .right)) (standsToZ (c .way) (c .remainder) (c .limit)) (standsToZ (c .way) (c .left) (c .right))
 
 -- a list holds x
-abbrev pub In : {A : Type 0} → A → List A → Type 0
-In x [] = ⊥
-In x (y ∷ ys) = (x ≡ y) ⊎ In x ys
+abbrev pub Among : {A : Type 0} → A → List A → Type 0
+Among x [] = ⊥
+Among x (y ∷ ys) = (x ≡ y) ⊎ Among x ys
 
 -- Of every ground
 pub record ShownExactly (g : Ground) : Type 0 where
   -- a condition's comparison, as it is shown, holds exactly when the condition is broken
-  pub holds : (j : Judged) → In j (conditions g) → holdsAsShown (j .condition) ≡ j .broken
+  pub holds : (j : Judged) → Among j (conditions g) → holdsAsShown (j .condition) ≡ j .broken
   -- what is shown is a condition that is broken
-  pub only : (c : Condition) → In c (shown g) → (j : Judged) × (In j (conditions g) × ((j .condition ≡ c) × (j .broken ≡ true)))
+  pub only : (c : Condition) → Among c (shown g) → (j : Judged) × (Among j (conditions g) × ((j .condition ≡ c) × (j .broken ≡ true)))
   -- and every one that is broken is shown
-  pub all : (j : Judged) → In j (conditions g) → j .broken ≡ true → In (j .condition) (shown g)
+  pub all : (j : Judged) → Among j (conditions g) → j .broken ≡ true → Among (j .condition) (shown g)
   -- the rule is broken exactly when a certificate is missing or something is shown
-  pub decides : (broken g ≡ true) ↔ ((g ≡ NoCertificate) ⊎ ((c : Condition) × In c (shown g)))
+  pub decides : (broken g ≡ true) ↔ ((g ≡ NoCertificate) ⊎ ((c : Condition) × Among c (shown g)))
 
 -- the findings of run k of a job, by a figure
 abbrev pub findingsIn : Figure → List ℕ → ℕ → List Finding
 findingsIn fig s k = findingsFor (versionOf s) fig (runOf s k) (chosenIn s k)
 
 -- what its rule goes by at a place
-abbrev pub groundIn : Figure → List ℕ → ℕ → ℕ → ℕ → Ground
-groundIn fig s k rule place = groundFor (versionOf s) fig (runOf s k) (chosenIn s k) rule place
+abbrev pub groundOfRun : Figure → List ℕ → ℕ → ℕ → ℕ → Ground
+groundOfRun fig s k rule place = groundFor (versionOf s) fig (runOf s k) (chosenIn s k) rule place
 
 -- Over every run, rule and place: the run has the finding exactly when what is shown of it is broken, and that is shown exactly
 pub record FromOneTable (fig : Figure) (s : List ℕ) (k rule place : ℕ) : Type 0 where
-  pub finding : HasFinding (findingsIn fig s k) rule place ↔ (broken (groundIn fig s k rule place) ≡ true)
-  pub exactly : ShownExactly (groundIn fig s k rule place)
+  pub finding : HasFinding (findingsIn fig s k) rule place ↔ (broken (groundOfRun fig s k rule place) ≡ true)
+  pub exactly : ShownExactly (groundOfRun fig s k rule place)
 
 -- The numbers of rules 7 and 8, where round and rectangular differ
 
