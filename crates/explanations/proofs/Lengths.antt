@@ -22,7 +22,7 @@ use Rattle.explanations.specs.declared.Form.the-variants.{Bytes, Text}
 use Rattle.explanations.specs.Written.{headIn, conditionIn, conditionsIn, dayIn, sidesIn, daysIn, written}
 
 -- no more conditions are shown than there are
-shown-few : (js : List Judged) → length (brokenOf js) ≤ length js
+pub shown-few : (js : List Judged) → length (brokenOf js) ≤ length js
 unfolding brokenOf
 shown-few [] = omega arith
 shown-few (j ∷ js) = go j (shown-few js) (j .broken) refl
@@ -31,7 +31,7 @@ shown-few (j ∷ js) = go j (shown-few js) (j .broken) refl
     go j h true e = rw e (omega (arith, h))
     go j h false e = rw e (omega (arith, h))
 
-at-most-two : (g : Ground) → length (conditions g) ≤ 2
+pub at-most-two : (g : Ground) → length (conditions g) ≤ 2
 unfolding conditions
 at-most-two Silent = omega arith
 at-most-two NoCertificate = omega arith

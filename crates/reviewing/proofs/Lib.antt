@@ -9,3 +9,4 @@ pub mod FitsPoints
 pub mod FitsGrounds
 pub mod FitsLines
 pub mod Fits
+pub mod Seventy
