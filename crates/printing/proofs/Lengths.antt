@@ -14,6 +14,7 @@ use Rattle.job.proofs.ClearJobs.{job-clear, clear-run}
 use Rattle.job.proofs.WholeFile.{run-count}
 use Rattle.reduction.specs.Reducing.{reduction, chosenIn, reducedRun}
 use Rattle.characters.specs.Numbers.{decimal}
+use Rattle.characters.specs.Words.{spelled}
 use Rattle.characters.proofs.Decimals.{decimal-short}
 use Rattle.characters.proofs.Texts.{joined-short}
 use Rattle.text.specs.Sheets.{space, newline}
@@ -28,7 +29,7 @@ runs-short fig s clear =
     omega (arith, all, run-count s (job-clear s clear .file))
 
 pub refusal-short : (number place : ℕ) → length (refusalText number place) ≤ 50
-unfolding refusalText
+unfolding refusalText spelled
 refusal-short number place =
     let one = length-append refusedWord (decimal number) in
     let two = length-append (refusedWord ++ decimal number) space in

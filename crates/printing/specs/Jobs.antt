@@ -1,6 +1,6 @@
 -- What is printed of a file, as characters (docs/RULES.md, The printed text).
 use Prim.Native.Nat.{ℕ}
-use mathlib.Core.List.{List, [], _∷_, _++_}
+use mathlib.Core.List.{List, _++_}
 use Rattle.fields.specs.declared.trouble.Trouble.{Trouble}
 use Rattle.fields.specs.declared.trouble.Trouble.the-variants.{Clear, At}
 use Rattle.steps.specs.declared.Figure.{Figure}
@@ -8,13 +8,14 @@ use Rattle.opening.specs.Opening.{runCountOf}
 use Rattle.job.specs.Troubles.{jobTrouble}
 use Rattle.reduction.specs.Reducing.{reducedRun}
 use Rattle.characters.specs.Numbers.{decimal}
+use Rattle.characters.specs.Words.{spelled}
 use Rattle.output.specs.Bytes.{joined}
 use Rattle.text.specs.Sheets.{space, newline}
 use Rattle.text.specs.Runs.{runText}
 
--- "REFUSED "
+-- what a refusal begins with
 abbrev pub refusedWord : List ℕ
-refusedWord = 82 ∷ 69 ∷ 70 ∷ 85 ∷ 83 ∷ 69 ∷ 68 ∷ 32 ∷ []
+refusedWord = spelled "REFUSED "
 
 -- a refusal: number and place
 unfoldable pub refusalText : ℕ → ℕ → List ℕ

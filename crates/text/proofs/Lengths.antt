@@ -27,6 +27,7 @@ use Rattle.findings.proofs.Members.{listed-exactly}
 use Rattle.findings.proofs.Most.{at-most-for}
 use Rattle.reduction.specs.Reducing.{worked}
 use Rattle.characters.specs.Numbers.{decimal}
+use Rattle.characters.specs.Words.{spelled}
 use Rattle.characters.proofs.Decimals.{decimal-short, decimal-digits, signed-short}
 use Rattle.characters.proofs.Texts.{either-short, joined-short}
 use Rattle.text.specs.Sheets.{space, newline, valueText, lineText, lineAt, sheetText}
@@ -55,7 +56,7 @@ sheet-short sheet = joined-short (lineAt (sheet .entries)) lineCount 25 (λ i in
 -- Findings
 
 class-short : (class : ℕ) → length (className class) ≤ 6
-unfolding className
+unfolding className spelled
 class-short class = either-short (eqb class 1) _ _ 6 (omega arith) (omega arith)
 
 finding-short : (f : Finding) → f .rule < 100 → f .place < 100 → length (findingText f) ≤ 12
@@ -121,11 +122,11 @@ module _ (v : Version) (fig : Figure) (r : Run) (ch : Chosen) (ok : RunOk r) whe
 -- A run
 
 standing-short : (accepted : Bool) → length (standing accepted) ≤ 10
-unfolding standing
+unfolding standing spelled
 standing-short accepted = either-short accepted _ _ 10 (omega arith) (omega arith)
 
 pub run-short : (v : Version) (fig : Figure) (r : Run) (ch : Chosen) → RunOk r → length (runText (worked v fig r ch)) ≤ 1693
-unfolding runText worked
+unfolding runText worked spelled
 run-short v fig r ch ok =
     let number = decimal (r .header .number) in
     let stands = standing (worked v fig r ch .accepted) in

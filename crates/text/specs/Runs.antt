@@ -1,7 +1,7 @@
 -- The findings of a run and a run as a whole, as characters (docs/RULES.md, The printed text).
 use Prim.Native.Nat.{ℕ}
 use mathlib.Core.Bool.{Bool, cond}
-use mathlib.Core.List.{List, [], _∷_, _++_}
+use mathlib.Core.List.{List, _++_}
 use lib.Dec.{eqb}
 use lib.ListN.{getD}
 use Rattle.findings.specs.declared.Finding.{Finding}
@@ -9,12 +9,13 @@ use Rattle.findings.specs.Listing.{noFinding}
 use Rattle.classes.specs.Classes.{fault}
 use Rattle.reduction.specs.declared.Reduced.{Reduced}
 use Rattle.characters.specs.Numbers.{decimal}
+use Rattle.characters.specs.Words.{spelled}
 use Rattle.output.specs.Bytes.{joined}
 use Rattle.text.specs.Sheets.{space, newline, sheetText}
 
--- "FAULT " for class 1, "NOTE " for a note
+-- what a finding is, by its class
 unfoldable pub className : ℕ → List ℕ
-className class = cond (eqb class fault) (70 ∷ 65 ∷ 85 ∷ 76 ∷ 84 ∷ 32 ∷ []) (78 ∷ 79 ∷ 84 ∷ 69 ∷ 32 ∷ [])
+className class = cond (eqb class fault) (spelled "FAULT ") (spelled "NOTE ")
 
 -- a finding: NOTE or FAULT, rule, place
 unfoldable pub findingText : Finding → List ℕ
@@ -24,14 +25,13 @@ findingText f = className (f .class) ++ decimal (f .rule) ++ space ++ decimal (f
 unfoldable pub findingsText : List Finding → ℕ → List ℕ
 findingsText fs n = joined (λ i. findingText (getD fs i noFinding)) n
 
--- " ACCEPTED" or " VOID", and the end of the line
+-- whether a run stands, and the end of the line
 unfoldable pub standing : Bool → List ℕ
-standing accepted =
-    cond accepted (32 ∷ 65 ∷ 67 ∷ 67 ∷ 69 ∷ 80 ∷ 84 ∷ 69 ∷ 68 ∷ 10 ∷ []) (32 ∷ 86 ∷ 79 ∷ 73 ∷ 68 ∷ 10 ∷ [])
+standing accepted = cond accepted (spelled " ACCEPTED\n") (spelled " VOID\n")
 
--- "RUN "
+-- what a run's first line begins with
 abbrev pub runWord : List ℕ
-runWord = 82 ∷ 85 ∷ 78 ∷ 32 ∷ []
+runWord = spelled "RUN "
 
 -- A run: its number, ACCEPTED or VOID; its twenty lines; its findings
 unfoldable pub runText : Reduced → List ℕ
