@@ -89,7 +89,8 @@ extern "C" {
 /* Enough bytes for the text of any job: it is proved that none has more. */
 #define LEVERBONNET_TEXT_BYTES_MOST 27088
 
-/* Enough bytes for the explanation of any finding, and enough for its text. */
+/* Enough bytes for the explanation of any finding, and enough for its text: it is
+ * proved that none has more. */
 #define LEVERBONNET_EXPLANATION_BYTES_MOST 70
 #define LEVERBONNET_EXPLANATION_TEXT_BYTES_MOST 1024
 

@@ -22,7 +22,8 @@ pub const MOST_RECTANGULAR: usize = 2 * 49;
 /// It is proved that no job's text has more characters.
 pub const MOST_TEXT: usize = 27_088;
 
-/// No finding's explanation has more bytes, and none has more characters as text.
+/// It is proved that no finding's explanation has more bytes, nor its text more
+/// characters.
 pub const MOST_EXPLANATION: usize = 70;
 pub const MOST_EXPLANATION_TEXT: usize = 1_024;
 

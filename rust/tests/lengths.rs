@@ -59,6 +59,18 @@ fn of_a_text() {
 
 #[test]
 fn of_an_explanation() {
+    assert_holds(
+        include_str!("../../crates/reviewing/specs/Numbers.antt"),
+        &format!(
+            "    → length (written Bytes (explanation v fig f n r rule place)) ≤ {MOST_EXPLANATION}"
+        ),
+    );
+    assert_holds(
+        include_str!("../../crates/explanations/proofs/Lengths.antt"),
+        &format!(
+            "pub written-short : (form : Form) (e : Explanation) → length (written form e) ≤ {MOST_EXPLANATION_TEXT}"
+        ),
+    );
     for (name, length) in [
         ("CONDITION_BYTES", CONDITION_LENGTH),
         ("DAY_BYTES", DAY_LENGTH),
