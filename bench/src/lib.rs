@@ -1,7 +1,7 @@
-//! Measures the proved library's `reduce` and `sheet_text`, also by a figure, against the
-//! independent program's, in one run, on the same files and the same lent buffers, taking
-//! turns. What is shown is a ratio, proved over independent, with its spread over the
-//! batches.
+//! Measures the proved library's `reduce`, `sheet_text`, `explain` and `explain_text`, also
+//! by a figure, against the independent program's, in one run, on the same files and the
+//! same lent buffers, taking turns. What is shown is a ratio, proved over independent, with
+//! its spread over the batches.
 //!
 //! The proved library's archive is for x86-64, and so is all of this.
 
@@ -12,7 +12,7 @@ mod measure;
 
 use independent::samples;
 
-use crate::measure::{measured, Call, Subject};
+use crate::measure::{measured, Call, Finding, Subject};
 
 pub fn print_table() {
     println!("Each batch times both sides in turn, on the same job and outputs; the");
@@ -53,11 +53,40 @@ fn subjects() -> Vec<Subject> {
         job,
         call: Call::SheetText,
     };
+    let explain = |name, job, finding| Subject {
+        name,
+        figure: None,
+        job,
+        call: Call::Explain(finding),
+    };
+    let explain_text = |name, job, finding| Subject {
+        name,
+        figure: None,
+        job,
+        call: Call::ExplainText(finding),
+    };
     let by = |figure: &[u8], subject| Subject {
         figure: Some(figure.to_vec()),
         ..subject
     };
     let worked = samples::worked().bytes();
+    // The leak of its only segment; line 3 that is 0, which it does not have; the leak of the
+    // longest job's last segment.
+    let leak = Finding {
+        run: 7,
+        rule: 11,
+        place: 1,
+    };
+    let no_volume = Finding {
+        run: 7,
+        rule: 12,
+        place: 0,
+    };
+    let last_leak = Finding {
+        run: last,
+        rule: 11,
+        place: 16,
+    };
     vec![
         reduce("worked job", worked.clone(), 7),
         reduce("longest job, first run", longest.clone(), first),
@@ -89,6 +118,18 @@ fn subjects() -> Vec<Subject> {
         by(
             &figure,
             text("text of the worked job by a figure", worked.clone()),
+        ),
+        explain("finding of the worked job explained", worked.clone(), leak),
+        explain("finding that it does not have", worked.clone(), no_volume),
+        explain(
+            "finding of the longest job's last run explained",
+            longest.clone(),
+            last_leak,
+        ),
+        explain_text("text of the first explained", worked.clone(), leak),
+        by(
+            &figure,
+            explain_text("the same by a figure", worked.clone(), leak),
         ),
     ]
 }

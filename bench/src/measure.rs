@@ -28,6 +28,16 @@ pub struct Subject {
 pub enum Call {
     Reduce { run: u16 },
     SheetText,
+    Explain(Finding),
+    ExplainText(Finding),
+}
+
+/// A finding of a run, which it may have or not.
+#[derive(Clone, Copy)]
+pub struct Finding {
+    pub run: u16,
+    pub rule: u16,
+    pub place: u16,
 }
 
 struct Side {
@@ -35,15 +45,25 @@ struct Side {
     reduce_by_figure: ReduceByFigure,
     sheet_text: fn(&[u8], &mut [u8]) -> u64,
     sheet_text_by_figure: fn(&[u8], &[u8], &mut [u8]) -> u64,
+    explain: Explain,
+    explain_by_figure: ExplainByFigure,
+    explain_text: Explain,
+    explain_text_by_figure: ExplainByFigure,
 }
 
 type ReduceByFigure = fn(&[u8], &[u8], u16, &mut [u8], &mut [u8]) -> u64;
+type Explain = fn(&[u8], u16, u16, u16, &mut [u8]) -> u64;
+type ExplainByFigure = fn(&[u8], &[u8], u16, u16, u16, &mut [u8]) -> u64;
 
 const PROVED: Side = Side {
     reduce: linked::reduce,
     reduce_by_figure: linked::reduce_by_figure,
     sheet_text: linked::sheet_text,
     sheet_text_by_figure: linked::sheet_text_by_figure,
+    explain: linked::explain,
+    explain_by_figure: linked::explain_by_figure,
+    explain_text: linked::explain_text,
+    explain_text_by_figure: linked::explain_text_by_figure,
 };
 
 const INDEPENDENT: Side = Side {
@@ -51,6 +71,10 @@ const INDEPENDENT: Side = Side {
     reduce_by_figure: independent::reduce_by_figure,
     sheet_text: independent::sheet_text,
     sheet_text_by_figure: independent::sheet_text_by_figure,
+    explain: independent::explain,
+    explain_by_figure: independent::explain_by_figure,
+    explain_text: independent::explain_text,
+    explain_text_by_figure: independent::explain_text_by_figure,
 };
 
 struct Buffers {
@@ -119,7 +143,31 @@ fn called(side: &Side, subject: &Subject, buffers: &mut Buffers) -> u64 {
         }
         (Call::SheetText, None) => (side.sheet_text)(job, text),
         (Call::SheetText, Some(figure)) => (side.sheet_text_by_figure)(figure, job, text),
+        (Call::Explain(finding), None) => explained(side.explain, job, finding, text),
+        (Call::Explain(finding), Some(figure)) => {
+            explained_by(side.explain_by_figure, figure, job, finding, text)
+        }
+        (Call::ExplainText(finding), None) => explained(side.explain_text, job, finding, text),
+        (Call::ExplainText(finding), Some(figure)) => {
+            explained_by(side.explain_text_by_figure, figure, job, finding, text)
+        }
     })
+}
+
+fn explained(call: Explain, job: &[u8], finding: &Finding, out: &mut [u8]) -> u64 {
+    let Finding { run, rule, place } = black_box(*finding);
+    call(job, run, rule, place, out)
+}
+
+fn explained_by(
+    call: ExplainByFigure,
+    figure: &[u8],
+    job: &[u8],
+    finding: &Finding,
+    out: &mut [u8],
+) -> u64 {
+    let Finding { run, rule, place } = black_box(*finding);
+    call(figure, job, run, rule, place, out)
 }
 
 /// Nanoseconds a call, over that many.
