@@ -7,3 +7,5 @@ pub mod Absent
 pub mod Most
 pub mod Accepting
 pub mod Members
+pub mod Speaking
+pub mod Seeking

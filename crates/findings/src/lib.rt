@@ -1,10 +1,12 @@
-// A run's findings: every rule at each of its places, in order, kept where it is broken.
+// A run's findings: every rule at each of its places, in order, kept where it is broken; and of one finding what its rule goes by.
 // Relies on the table of the rules, on the chosen certificates, on what each line is promised to be, and on a run that is in range.
 
 pub mod weighings;
 
+use arith::less;
 use choosing::Chosen;
 use conditions::Part;
+use grounds::Ground;
 use lines::Lines;
 use readings::headers::Version;
 use readings::weighings::WeighingKind;
@@ -14,10 +16,12 @@ use site::minimum_points;
 use steps::Figure;
 use weighings::of_kind;
 ghost use mathlib.Core.Path.{_≡_};
-ghost use Prim.Native.Nat.{_≤_};
+ghost use Prim.Native.Nat.{_≤_, _<_};
 ghost use lib.ListN.{take};
 ghost use Rattle.readings.specs.Ranges.{greatestWeighingCount};
-ghost use Rattle.findings.specs.Listing.{besideOf, findingAt, findings, mostFindings, listed, accepted, Worked};
+ghost use Rattle.rules.specs.Rules.{lastRule};
+ghost use Rattle.findings.specs.Listing.{besideOf, findingAt, mostFindings, accepted, Worked};
+ghost use Rattle.findings.specs.Seeking.{beforeOf, lastOf, placeOf, walked};
 
 // A broken rule: its number, its class and the place.
 pub struct Finding {
@@ -33,6 +37,53 @@ pub const MOST_FINDINGS: usize = 98;
 pub struct Findings {
     pub count: usize,
     pub list: [Finding; MOST_FINDINGS],
+}
+
+// What is sought of a run: all of its findings, or what stands behind that of a rule at a place.
+pub enum Sought {
+    All,
+    Why(u8, u16),
+}
+
+// A place that no finding has.
+const NOWHERE: u16 = 65535;
+
+impl Sought {
+    // How many rules stand before the first that is looked at.
+    fn before(self) -> u8
+        ensures { λ r. ⌜ r ≡ beforeOf self ⌝ }
+    {
+        match self {
+            Sought::All => 0,
+            Sought::Why(rule, _place) => less(rule as u64, 1) as u8,
+        }
+    }
+
+    // The last rule that is looked at.
+    fn last(self) -> u8
+        ensures { λ r. ⌜ r ≡ lastOf self ⌝ }
+    {
+        match self {
+            Sought::All => rules::LAST_RULE,
+            Sought::Why(rule, _place) => rule,
+        }
+    }
+
+    // The place where the search ends, if the rule is broken there.
+    fn place(self) -> u16
+        ensures { λ r. ⌜ r ≡ placeOf self ⌝ }
+    {
+        match self {
+            Sought::All => NOWHERE,
+            Sought::Why(_rule, place) => place,
+        }
+    }
+}
+
+// What comes of it: findings, and what the rule of the one sought goes by.
+pub struct Walked {
+    pub findings: Findings,
+    pub ground: Ground,
 }
 
 // What the rules may see of a run beside the part that each looks at.
@@ -66,16 +117,26 @@ fn finding_at(v: Version, rule: u8, i: u8) -> Finding
     }
 }
 
-// The findings of a run of a job of that version, judged by that figure, by rule and then by place.
-pub fn find(v: Version, figure: Figure, run: Run, chosen: Chosen, lines: Lines) -> Findings
+// What is sought of a run of a job of that version, judged by that figure: rule by rule, and of each place by place.
+pub fn find(
+    v: Version,
+    figure: Figure,
+    run: Run,
+    chosen: Chosen,
+    lines: Lines,
+    sought: Sought,
+) -> Walked
     requires { ⌜ Worked run lines ⌝ }
-    ensures { λ r. ⌜ r ≡ listed (findings v figure run chosen lines) ⌝ }
+    requires { ⌜ (beforeOf sought < lastOf sought) × (lastOf sought ≤ lastRule) ⌝ }
+    ensures { λ r. ⌜ r ≡ walked sought v figure run chosen lines ⌝ }
 {
     let header = run.header;
     let points = run.points;
     let segments = run.segments;
     let weighings = run.weighings;
     let beside = beside_of(figure, run, chosen, lines);
+    let last = sought.last();
+    let place = sought.place();
     let mut found = Findings {
         count: 0,
         list: [Finding {
@@ -85,8 +146,8 @@ pub fn find(v: Version, figure: Figure, run: Run, chosen: Chosen, lines: Lines) 
         }; MOST_FINDINGS],
     };
     let mut count: usize = 0;
-    let mut done: u8 = 0;
-    while done < rules::LAST_RULE {
+    let mut done: u8 = sought.before();
+    while done < last {
         let rule = done + 1;
         let places = classes::places(header.counts, rule);
         let mut i: u8 = 0;
@@ -97,8 +158,17 @@ pub fn find(v: Version, figure: Figure, run: Run, chosen: Chosen, lines: Lines) 
                 17 => Part::OneWeighing(weighings[i as usize]),
                 _ => Part::Whole,
             };
-            if rules::ground_of(part, beside, rule).broken() {
-                found.list[count] = finding_at(v, rule, i);
+            let ground = rules::ground_of(part, beside, rule);
+            if ground.broken() {
+                let finding = finding_at(v, rule, i);
+                if finding.place == place {
+                    found.count = count;
+                    return Walked {
+                        findings: found,
+                        ground: ground,
+                    };
+                }
+                found.list[count] = finding;
                 count += 1;
             }
             i += 1;
@@ -106,7 +176,10 @@ pub fn find(v: Version, figure: Figure, run: Run, chosen: Chosen, lines: Lines) 
         done = rule;
     }
     found.count = count;
-    found
+    Walked {
+        findings: found,
+        ground: Ground::Silent,
+    }
 }
 
 // Whether no finding is a fault.
