@@ -1,20 +1,19 @@
 // The certificate days behind a finding: on which sides of the run's day its rule uses certificates, and the nearest day there.
-// Relies on the certificates chosen for the run, and on the choice of two more.
+// Relies on the choice of a certificate on either side.
 
 use certs::choose;
-use choosing::Chosen;
 use choosing::Lookup;
 use readings::certificates::CertificateKind;
 use readings::headers::Version;
 use records::Identity;
 use records::RunHeader;
 ghost use mathlib.Core.Path.{_≡_};
-ghost use mathlib.Core.Bool.{true};
+ghost use mathlib.Core.Bool.{true, false};
 ghost use Prim.Native.Nat.{_≤_};
 ghost use lib.ListN.{length};
 ghost use Rattle.opening.specs.Opening.{versionOf};
 ghost use Rattle.heads.specs.Values.{certificatePlace, certificateOf};
-ghost use Rattle.choosing.specs.Choosing.{chosen, chosenFor};
+ghost use Rattle.choosing.specs.Choosing.{chosen};
 ghost use Rattle.dates.specs.Dates.{workedUse, meterUse, pitotUse, nozzleUse, dayOf, sidesOf, daysOf, entriesOn, entriesOf, entries};
 
 // The sides of the run's day: on it or before it, and later.
@@ -135,38 +134,28 @@ fn nozzle_use(rule: u8) -> Use
     }
 }
 
-// The day of what was found.
-fn day_of(found: Lookup) -> Day
-    ensures { λ r. ⌜ r ≡ dayOf found ⌝ }
+// The day of the nearest certificate on one side, among the first `count` of a file.
+fn day_on(
+    s: &[u8],
+    v: Version,
+    count: usize,
+    kind: u8,
+    identity: Identity,
+    day: u16,
+    after: bool,
+) -> Day
+    requires { ⌜ (v ≡ versionOf (now s)) × (certificatePlace v count ≤ length (now s)) ⌝ }
+    ensures { λ r. ⌜ r ≡ dayOf (chosen after kind identity day (certificateOf (now (s .entry))) count) ⌝ }
 {
+    let found = choose(s, v, count, kind, identity, day, after);
     let Lookup::Found(c) = found else {
         return Day::NoneSoDated;
     };
     Day::On(c.day)
 }
 
-// The days of a kind, from what was found on either side.
-fn sides_of(used: Use, before: Lookup, after: Lookup) -> Sides
-    ensures { λ r. ⌜ r ≡ sidesOf used before after ⌝ }
-{
-    match used {
-        Use::Neither => Sides {
-            before: Day::Unused,
-            after: Day::Unused,
-        },
-        Use::Before => Sides {
-            before: day_of(before),
-            after: Day::Unused,
-        },
-        Use::Both => Sides {
-            before: day_of(before),
-            after: day_of(after),
-        },
-    }
-}
-
-// The days of a kind of which a later certificate is chosen for no run: it is looked for only where it is used.
-fn sides_with_later(
+// The days of a kind. A certificate is looked for only where it is used.
+fn sides_of(
     s: &[u8],
     v: Version,
     count: usize,
@@ -174,38 +163,42 @@ fn sides_with_later(
     identity: Identity,
     day: u16,
     used: Use,
-    before: Lookup,
 ) -> Sides
     requires { ⌜ (v ≡ versionOf (now s)) × (certificatePlace v count ≤ length (now s)) ⌝ }
-    ensures { λ r. ⌜ r ≡ sidesOf used before (chosen true kind identity day (certificateOf (now (s .entry))) count) ⌝ }
+    ensures { λ r. ⌜ r ≡ sidesOf used (chosen false kind identity day (certificateOf (now (s .entry))) count) (chosen true kind identity day (certificateOf (now (s .entry))) count) ⌝ }
 {
     match used {
-        Use::Neither => sides_of(used, before, Lookup::Nothing),
-        Use::Before => sides_of(used, before, Lookup::Nothing),
-        Use::Both => sides_of(used, before, choose(s, v, count, kind, identity, day, true)),
+        Use::Neither => Sides {
+            before: Day::Unused,
+            after: Day::Unused,
+        },
+        Use::Before => Sides {
+            before: day_on(s, v, count, kind, identity, day, false),
+            after: Day::Unused,
+        },
+        Use::Both => Sides {
+            before: day_on(s, v, count, kind, identity, day, false),
+            after: day_on(s, v, count, kind, identity, day, true),
+        },
     }
 }
 
-// The days that a rule uses, of a run with those certificates chosen among the first `count` of a file.
-pub fn days_of(
-    s: &[u8],
-    v: Version,
-    count: usize,
-    header: RunHeader,
-    chosen: Chosen,
-    rule: u8,
-) -> Days
+// The days that a rule uses, of a run and the first `count` certificates of a file.
+pub fn days_of(s: &[u8], v: Version, count: usize, header: RunHeader, rule: u8) -> Days
     requires { ⌜ (v ≡ versionOf (now s)) × (certificatePlace v count ≤ length (now s)) ⌝ }
-    requires { ⌜ chosen ≡ chosenFor (certificateOf (now s)) count header ⌝ }
     ensures { λ r. ⌜ r ≡ daysOf v (certificateOf (now (s .entry))) count header rule ⌝ }
 {
-    let before = chosen.before;
-    let after = chosen.after;
-    let pitot = chosen.pitot;
-    let nozzle = chosen.nozzle;
     Days {
-        meter: sides_of(meter_use(v, rule), before, after),
-        pitot: sides_with_later(
+        meter: sides_of(
+            s,
+            v,
+            count,
+            CertificateKind::METER,
+            header.meter,
+            header.day,
+            meter_use(v, rule),
+        ),
+        pitot: sides_of(
             s,
             v,
             count,
@@ -213,9 +206,8 @@ pub fn days_of(
             header.pitot,
             header.day,
             pitot_use(rule),
-            pitot,
         ),
-        nozzle: sides_with_later(
+        nozzle: sides_of(
             s,
             v,
             count,
@@ -223,7 +215,6 @@ pub fn days_of(
             header.nozzle,
             header.day,
             nozzle_use(rule),
-            nozzle,
         ),
     }
 }

@@ -47,7 +47,7 @@ module _ (v : Version) (isBroken : ℕ → ℕ → Bool) where
   unfolding ruleFindings
   found-none fs rule = append-nil fs
 
-  rule-rising : (rule i j : ℕ) → i ≤ j → length (ruleFindings v (isBroken rule) rule i) ≤ length (ruleFindings v (isBroken rule) rule j)
+  pub rule-rising : (rule i j : ℕ) → i ≤ j → length (ruleFindings v (isBroken rule) rule i) ≤ length (ruleFindings v (isBroken rule) rule j)
   unfolding ruleFindings
   rule-rising rule =
       rising (λ i. length (ruleFindings v (isBroken rule) rule i))
@@ -78,7 +78,7 @@ module _ (v : Version) (isBroken : ℕ → ℕ → Bool) where
     unfolding findingsTo
     rule-more k = ap (λ (n : ℕ). findingsTo v isBroken places n) (add-one k)
 
-    rules-rising : (k m : ℕ) → k ≤ m → length (findingsTo v isBroken places k) ≤ length (findingsTo v isBroken places m)
+    pub rules-rising : (k m : ℕ) → k ≤ m → length (findingsTo v isBroken places k) ≤ length (findingsTo v isBroken places m)
     unfolding findingsTo
     rules-rising =
         rising (λ k. length (findingsTo v isBroken places k))

@@ -1,10 +1,10 @@
 -- The search: over the rules that are looked at, up to the finding that is sought or to the end.
-use Prim.Native.Nat.{ℕ, zero, suc, _+_, _≤_, _<_, zero-le}
+use Prim.Native.Nat.{ℕ, zero, suc, _+_, _-_, _≤_, _<_, zero-le}
 use mathlib.Core.Path.{_≡_, refl, sym, _∙_, ap}
 use mathlib.Core.Bool.{Bool, true, false, cond}
 use mathlib.Core.List.{List, [], _∷_, _++_}
 use mathlib.Core.Logic.{_⊎_, inl, inr}
-use native.Mathlib.Nat.{le-refl, eq-or-lt-of-le}
+use native.Mathlib.Nat.{le-refl, le-of-lt, le-trans, eq-or-lt-of-le}
 use native.Mathlib.Numerals.{add-one}
 use native.Mathlib.Omega.{arith}
 use borrow.Author.Tests.{lt-ltb, le-ltb}
@@ -21,16 +21,16 @@ use Rattle.grounds.specs.declared.Ground.the-variants.{Silent}
 use Rattle.grounds.specs.Grounds.{broken}
 use Rattle.classes.specs.Classes.{placesOf, placeAt}
 use Rattle.rules.specs.declared.Beside.{Beside}
-use Rattle.rules.specs.Rules.{groundOf}
+use Rattle.rules.specs.Rules.{lastRule, groundOf}
 use Rattle.findings.specs.declared.Finding.{Finding}
 use Rattle.findings.specs.declared.Findings.{Findings}
 use Rattle.findings.specs.declared.Sought.{Sought}
 use Rattle.findings.specs.declared.Sought.the-variants.{All, Why}
 use Rattle.findings.specs.declared.Walked.{Walked}
-use Rattle.findings.specs.Listing.{partOf, besideOf, brokenAt, findingAt, ruleFindings, findingsTo, findings, listed}
+use Rattle.findings.specs.Listing.{partOf, besideOf, brokenAt, findingAt, ruleFindings, findingsTo, findings, mostFindings, listed, Worked}
 use Rattle.findings.specs.Seeking.{indexOf, groundAt, beforeOf, lastOf, placeOf, listFor, walked}
-use Rattle.findings.proofs.Filling.{Entered, entered-listed, rule-more}
-use Rattle.findings.proofs.Members.{rule-holds}
+use Rattle.findings.proofs.Filling.{Entered, entered-listed, rule-more, rule-rising, rules-rising, fewer}
+use Rattle.findings.proofs.Most.{at-most}
 use Rattle.findings.proofs.Speaking.{index-of-place, spoken, spoken-inside, spoken-there, spoken-broken}
 
 -- the places of the rules above the first b: those before have none
@@ -135,3 +135,20 @@ module _ (v : Version) (fig : Figure) (r : Run) (ch : Chosen) (l : Lines) where
   not-met (Why rule place) b by eb ep some passed entered =
       let this : rule ≡ b + 1 = omega (arith, eb, some) in
       rw this (not-met-why b place (rw (by, ep, this) at passed) (rw (by, this) at entered))
+
+  -- What is listed is never more than all findings
+  pub listed-few : Worked r l → (sought : Sought) → beforeOf sought < lastOf sought → lastOf sought ≤ lastRule → length (listFor sought v fig r ch l) ≤ mostFindings
+  unfolding findings
+  listed-few w All some last = at-most v fig r ch l w
+  listed-few w (Why rule place) some last =
+      let n = r .header .counts in
+      let b : ℕ = rule - 1 in
+      let this : rule ≡ b + 1 = omega (arith, some) in
+      let in-rule = rule-rising v isBroken rule _ _ (up-to-all (broken (groundAt fig r ch l rule place)) refl) in
+      let rule-among = ap length (of-one-rule v isBroken n b) in
+      let among-all = le-trans (rules-rising v isBroken (placesFrom b n) (b + 1) lastRule (omega (arith, last, this))) (fewer v isBroken (placesFrom b n) (placesOf n) (places-fewer b n) lastRule) in
+      le-trans in-rule (le-trans (rw (this, ← rule-among) among-all) (at-most v fig r ch l w))
+    where
+      up-to-all : (t : Bool) → broken (groundAt fig r ch l rule place) ≡ t → cond t (indexOf place) (placesOf (r .header .counts) rule) ≤ placesOf (r .header .counts) rule
+      up-to-all true e = le-of-lt (spoken-inside fig r ch l rule place e)
+      up-to-all false e = le-refl _

@@ -1,6 +1,6 @@
 -- A run worked with what was chosen for it, put together.
 use Prim.Native.Nat.{ℕ}
-use mathlib.Core.Path.{_≡_, _∙_, subst⁻¹}
+use mathlib.Core.Path.{_≡_, refl, _∙_, subst⁻¹}
 use mathlib.Core.Bool.{Bool}
 use mathlib.Core.List.{List}
 use lib.ListN.{take}
@@ -21,10 +21,13 @@ use Rattle.factors.specs.InRange.{ChosenOk}
 use Rattle.factors.proofs.Values.{chosen-in-range, factor-range, coefficient-range, diameters-range}
 use Rattle.steps.specs.declared.Figure.{Figure}
 use Rattle.findings.specs.declared.Finding.{Finding}
-use Rattle.findings.specs.declared.Findings.{Findings}
-use Rattle.findings.specs.Listing.{mostFindings, noFinding, findings, accepted, listed, linesFor, findingsFor}
+use Rattle.findings.specs.declared.Sought.{Sought}
+use Rattle.findings.specs.declared.Sought.the-variants.{All, Why}
+use Rattle.findings.specs.declared.Walked.{Walked}
+use Rattle.findings.specs.Listing.{mostFindings, noFinding, accepted, listed, linesFor, findingsFor}
+use Rattle.findings.specs.Seeking.{listFor, walked}
 use Rattle.reduction.specs.declared.Reduced.{Reduced}
-use Rattle.reduction.specs.Reducing.{worked, reduction, Reducible}
+use Rattle.reduction.specs.Reducing.{Reducible, foundFor, judged, worked, reduction, reducedRun, judgedRun, chosenIn}
 
 module _ (v : Version) (f : ℕ → Certificate) (n : ℕ) (r : Run) (ok : Reducible f n r) where
   -- what is chosen for a run is in range, and so are the values that it gives
@@ -48,6 +51,16 @@ pub listed-count : (fs : List Finding) → take (listed fs .count) (listed fs .l
 unfolding listed
 listed-count fs = filled-front mostFindings noFinding fs
 
-pub is-reduction : (v : Version) (fig : Figure) (f : ℕ → Certificate) (n : ℕ) (r : Run) {ch : Chosen} {l : Lines} {found : Findings} {stands : Bool} {written : Sheet} → ch ≡ chosenFor f n (r .header) → l ≡ linesFor v r ch → found ≡ listed (findings v fig r ch l) → stands ≡ accepted (take (found .count) (found .list)) → written ≡ sheet l → _≡_ {A = Reduced} (record { number = r .header .number; accepted = stands; sheet = written; findings = found }) (reduction v fig f n r)
-unfolding reduction worked findingsFor
-is-reduction v fig f n r {ch} ec el ef ea ew = rw (ew, ea, ef, listed-count, el, ec)
+-- the lists of what is sought are those that were looked for
+same-list : (sought : Sought) (v : Version) (fig : Figure) (r : Run) (ch : Chosen) → listFor sought v fig r ch (linesFor v r ch) ≡ foundFor sought v fig r ch
+unfolding findingsFor
+same-list All v fig r ch = refl
+same-list (Why rule place) v fig r ch = refl
+
+pub is-judged : (sought : Sought) (v : Version) (fig : Figure) (f : ℕ → Certificate) (n : ℕ) (r : Run) {ch : Chosen} {l : Lines} {done : Walked} {stands : Bool} {written : Sheet} → ch ≡ chosenFor f n (r .header) → l ≡ linesFor v r ch → done ≡ walked sought v fig r ch l → stands ≡ accepted (take (done .findings .count) (done .findings .list)) → written ≡ sheet l → _≡_ {A = Reduced} (record { number = r .header .number; accepted = stands; sheet = written; findings = done .findings; ground = done .ground }) (judged sought v fig r (chosenFor f n (r .header)))
+is-judged sought v fig f n r {ch} ec el ed ea ew = rw (ew, ea, ed, listed-count, el, ec, same-list sought v fig r (chosenFor f n (r .header)))
+
+-- Where all findings are sought, the run is reduced
+pub judged-all : (fig : Figure) (s : List ℕ) (k : ℕ) → judgedRun All fig s k ≡ reducedRun fig s k
+unfolding judgedRun reducedRun reduction worked chosenIn
+judged-all fig s k = refl

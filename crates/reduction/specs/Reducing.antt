@@ -14,7 +14,11 @@ use Rattle.choosing.specs.declared.Chosen.{Chosen}
 use Rattle.choosing.specs.Choosing.{chosenFor}
 use Rattle.factors.specs.InRange.{CertificatesOk}
 use Rattle.steps.specs.declared.Figure.{Figure}
+use Rattle.findings.specs.declared.Finding.{Finding}
+use Rattle.findings.specs.declared.Sought.{Sought}
+use Rattle.findings.specs.declared.Sought.the-variants.{All, Why}
 use Rattle.findings.specs.Listing.{accepted, linesFor, findingsFor, listed}
+use Rattle.findings.specs.Seeking.{listFor, groundKept}
 use Rattle.heads.specs.Values.{certificatePlace, certificateOf}
 use Rattle.job.specs.declared.Job.{Job}
 use Rattle.opening.specs.Opening.{versionOf, certificateCountOf, runCountOf}
@@ -26,15 +30,25 @@ use Rattle.reduction.specs.declared.Which.the-variants.{Index, NoRun}
 
 -- From values
 
--- a run worked with the certificates chosen for it, in a job of that version, and judged by that figure
-unfoldable pub worked : Version → Figure → Run → Chosen → Reduced
-worked v fig r ch =
+-- the findings that are listed of a run with those certificates, by what is sought
+abbrev pub foundFor : Sought → Version → Figure → Run → Chosen → List Finding
+foundFor All v fig r ch = findingsFor v fig r ch
+foundFor (Why rule place) v fig r ch = listFor (Why rule place) v fig r ch (linesFor v r ch)
+
+-- a run worked with the certificates chosen for it, in a job of that version, judged by that figure, and what is sought of its findings
+abbrev pub judged : Sought → Version → Figure → Run → Chosen → Reduced
+judged sought v fig r ch =
     record {
       number = r .header .number;
-      accepted = accepted (findingsFor v fig r ch);
+      accepted = accepted (foundFor sought v fig r ch);
       sheet = sheet (linesFor v r ch);
-      findings = listed (findingsFor v fig r ch);
+      findings = listed (foundFor sought v fig r ch);
+      ground = groundKept sought fig r ch (linesFor v r ch);
     }
+
+-- the same with all of its findings
+unfoldable pub worked : Version → Figure → Run → Chosen → Reduced
+worked v fig r ch = judged All v fig r ch
 
 -- A run reduced with the first n certificates, in a job of that version, by that figure
 unfoldable pub reduction : Version → Figure → (ℕ → Certificate) → ℕ → Run → Reduced
@@ -69,3 +83,7 @@ chosenIn s k = chosenFor (certificateOf s) (certificateCountOf s) (runOf s k .he
 -- Run k of a job, by that figure
 unfoldable pub reducedRun : Figure → List ℕ → ℕ → Reduced
 reducedRun fig s k = reduction (versionOf s) fig (certificateOf s) (certificateCountOf s) (runOf s k)
+
+-- and what is sought of its findings
+unfoldable pub judgedRun : Sought → Figure → List ℕ → ℕ → Reduced
+judgedRun sought fig s k = judged sought (versionOf s) fig (runOf s k) (chosenIn s k)

@@ -1,5 +1,4 @@
 -- `days_of` is `daysOf`, kind by kind.
-use Rattle.choosing.specs.Choosing.{chosenFor}
 use Rattle.dates.specs.Dates.{daysOf}
 use borrow.Author.Needs.{needs}
 use Rattle.dates.proofs.days_of.Statement.{statement}
@@ -14,26 +13,22 @@ sides-of-requires c κs = search needs
 pitot-use-requires : tie.Need-pitot-use-requires
 pitot-use-requires c κs = search needs
 
-sides-with-later-requires : tie.Need-sides-with-later-requires
-sides-with-later-requires c κs = search needs
+sides-of-requires-2 : tie.Need-sides-of-requires-2
+sides-of-requires-2 c κs = search needs
 
 nozzle-use-requires : tie.Need-nozzle-use-requires
 nozzle-use-requires c κs = search needs
 
-sides-with-later-requires-2 : tie.Need-sides-with-later-requires-2
-sides-with-later-requires-2 c κs = search needs
+sides-of-requires-3 : tie.Need-sides-of-requires-3
+sides-of-requires-3 c κs = search needs
 
 returns : tie.Need-returns
-unfolding daysOf chosenFor
+unfolding daysOf
 returns c =
-    let start = c .before .before .before .before .before .before .before in
-    let meter-use = c .before .before .before .before .before .meter-use .ensures in
-    let pitot-use = c .before .before .before .pitot-use .ensures in
-    let nozzle-use = c .before .nozzle-use .ensures in
     λ i. record {
-      meter = rw (meter-use, start .pre .1) at (c .before .before .before .before .sides-of .ensures) i;
-      pitot = rw (pitot-use, start .pre .1) at (c .before .before .sides-with-later .ensures) i;
-      nozzle = rw (nozzle-use, start .pre .1) at (c .sides-with-later2 .ensures) i;
+      meter = rw (c .before .before .before .before .before .meter-use .ensures) at (c .before .before .before .before .sides-of .ensures) i;
+      pitot = rw (c .before .before .before .pitot-use .ensures) at (c .before .before .sides-of2 .ensures) i;
+      nozzle = rw (c .before .nozzle-use .ensures) at (c .sides-of3 .ensures) i;
     }
 
 pub days-of-spec : {M : Type 1} → statement M
@@ -43,7 +38,7 @@ days-of-spec =
     meter-use-requires
     sides-of-requires
     pitot-use-requires
-    sides-with-later-requires
+    sides-of-requires-2
     nozzle-use-requires
-    sides-with-later-requires-2
+    sides-of-requires-3
     returns)
