@@ -1,3 +1,2 @@
 -- The laws of a finding explained.
-pub mod Speaking
 pub mod Because

@@ -3,6 +3,7 @@
 use characters::put_decimal;
 use characters::put_word;
 use fields::trouble::Trouble;
+use findings::Sought;
 use job::Job;
 use reduction::reduce;
 use steps::Figure;
@@ -38,7 +39,7 @@ pub fn put_runs(figure: Figure, s: &[u8], job: Job, out: &mut [u8]) -> usize
     let mut next: usize = 0;
     let mut k: usize = 0;
     while k < runs {
-        next = put_run(out, next, reduce(s, job, figure, k));
+        next = put_run(out, next, reduce(s, job, figure, k, Sought::All));
         k += 1;
     }
     next

@@ -2,6 +2,7 @@
 // Relies on the reader, on a run's reduction and on how a reduced run is handed over.
 
 use fields::trouble::Trouble;
+use findings::Sought;
 use handing::hand_over;
 use output::Answer;
 use reduction::Which;
@@ -28,7 +29,7 @@ fn reduce_by(figure: Figure, job: &[u8], run: u16, lines: &mut [u8], findings: &
     let Which::Index(k) = which else {
         return Answer::Refused(Answer::UNKNOWN_RUN, 0);
     };
-    hand_over(reduction::reduce(job, read, figure, k), lines, findings)
+    hand_over(reduction::reduce(job, read, figure, k, Sought::All), lines, findings)
 }
 
 // Works the run of that number without a figure. The header is judged by itself, so that a file which is no job is answered

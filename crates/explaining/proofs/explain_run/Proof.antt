@@ -1,54 +1,57 @@
--- The run is read at its place and explained with the certificates that the job holds.
-use Prim.Native.Nat.{ℕ}
-use mathlib.Core.Path.{_∙_, _≡_}
-use mathlib.Core.List.{List}
-use native.Mathlib.Omega.{arith}
-use lib.ListN.{getD}
-use Rattle.readings.specs.declared.headers.Version.{Version}
-use Rattle.records.specs.declared.Run.{Run}
-use Rattle.steps.specs.declared.Figure.{Figure}
-use Rattle.opening.specs.Opening.{versionOf}
-use Rattle.heads.specs.Values.{certificateOf}
-use Rattle.parts.specs.Values.{runAt}
-use Rattle.job.specs.declared.Job.{Job}
-use Rattle.job.proofs.ReadJobs.{few-runs, count-of-runs, count-of-certificates, lies-within}
-use Rattle.reduction.specs.Reducing.{ClearRun}
-use Rattle.reduction.proofs.ClearJobs.{workable, this-run, ready}
-use Rattle.explaining.specs.declared.Explained.{Explained}
-use Rattle.explaining.specs.Explaining.{explained, explainedRun}
+-- Way by way: no rule has the number, nothing was kept, or the explanation.
+use mathlib.Core.Path.{_≡_}
+use mathlib.Core.List.{[], _∷_}
+use types.Run.{OneOf, miss}
+use denote.Enum.Declared.{tagOf}
+use borrow.Author.Needs.{needs}
+use Rattle.grounds.specs.declared.Ground.{Ground}
+use Rattle.grounds.specs.declared.Ground.the-variants.{Silent}
+use Rattle.grounds.proofs.Ground.{the-type}
+use Rattle.explaining.proofs.Because.{beneath, beyond, no-finding, has-finding}
 use Rattle.explaining.proofs.explain_run.Statement.{statement}
 use Rattle.explaining.proofs.explain_run.Tie as tie
 
-is-explained : (fig : Figure) {s : List ℕ} {v : Version} {j : Job} {k : ℕ} (rule place : ℕ) {r : Run} {done : Explained} → v ≡ versionOf s → ClearRun s j k → r ≡ runAt s (getD (j .starts) k 0) → done ≡ explained v fig (certificateOf s) (j .certificates) r rule place → done ≡ explainedRun fig s k rule place
-unfolding explainedRun
-is-explained fig {s} {v} {j} rule place ev ok e ed =
-    ed ∙ rw (ev, this-run ok e, count-of-certificates s j (ok .job))
-
-version-requires : tie.Need-version-requires
-version-requires c κs =
-    let ok = c .before .pre in
-    omega (arith, workable _ _ (ok .job) _ (ok .inside) .within)
-
-mul-run : tie.Need-mul-run
-mul-run c =
-    let ok = c .before .before .before .pre in
-    omega (arith, few-runs _ _ (ok .job), count-of-runs _ _ (ok .job), ok .inside)
-
-array-read-run : tie.Need-array-read-run
-array-read-run c =
-    let ok = c .before .before .before .pre in
-    omega (arith, few-runs _ _ (ok .job), count-of-runs _ _ (ok .job), ok .inside)
-
-run-requires : tie.Need-run-requires
-run-requires c κs =
-    let ok = c .before .before .before .pre in
-    (c .before .version .ensures, lies-within _ _ (ok .job) _ (ok .inside))
-
-explain-requires : tie.Need-explain-requires
-explain-requires c κs = (c .before .before .version .ensures, ready (c .before .before .before .before .pre) (c .run .ensures))
-
 returns : tie.Need-returns
-returns c = is-explained _ _ _ (c .before .before .before .version .ensures) (c .before .before .before .before .before .pre) (c .before .run .ensures) (c .explain .ensures)
+returns c = beneath _ _ _ _ _ (c .if1 .taken)
+
+cast-if2 : tie.Need-cast-if2
+cast-if2 c = search needs
+
+returns-2 : tie.Need-returns-2
+returns-2 c = beyond _ _ _ _ _ (c .if2 .taken)
+
+cast-number : tie.Need-cast-number
+cast-number c = search needs
+
+reduce-requires : tie.Need-reduce-requires
+reduce-requires c κs = search needs
+
+enum-told : tie.Need-enum-told
+enum-told c = search needs
+
+returns-3 : tie.Need-returns-3
+returns-3 c = no-finding _ _ _ _ _ (c .before .before .reduce .ensures) (c .enum-told .given .1)
+
+explanation-by-requires : tie.Need-explanation-by-requires
+explanation-by-requires c κs = search needs
+
+-- a ground of another kind than the first, numbered from 0 in the enum's order, is not nothing
+something : {g : Ground} → OneOf (1 ∷ 2 ∷ 3 ∷ 4 ∷ 5 ∷ []) (tagOf the-type g) → g ≡ Silent → ⊥
+something other none = miss (1 ∷ 2 ∷ 3 ∷ 4 ∷ 5 ∷ []) 0 tt (rw none at other)
+
+returns-4 : tie.Need-returns-4
+returns-4 c = has-finding _ _ _ _ _ (c .before .before .reduce .ensures) (something (c .before .match .keys2)) (c .explanation-by .ensures)
 
 pub explain-run-spec : {M : Type 1} → statement M
-explain-run-spec = tie.close (tie.spec version-requires mul-run array-read-run run-requires explain-requires returns)
+explain-run-spec =
+    tie.close
+    (tie.spec
+    returns
+    cast-if2
+    returns-2
+    cast-number
+    reduce-requires
+    enum-told
+    returns-3
+    explanation-by-requires
+    returns-4)

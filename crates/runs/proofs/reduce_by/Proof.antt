@@ -6,6 +6,7 @@ use Rattle.reduction.specs.Reducing.{ClearRun}
 use Rattle.job.proofs.ReadJobs.{read-clear, count-of-runs, place-fits}
 use Rattle.reduction.proofs.ClearJobs.{found-few}
 use Rattle.reduction.proofs.Naming.{found-inside}
+use Rattle.reduction.proofs.Working.{judged-all}
 use Rattle.handing.proofs.Handing.{came-refused, came-same}
 use Rattle.runs.proofs.Outcomes.{refused-by-reader, no-run, one-run}
 use Rattle.runs.proofs.reduce_by.Statement.{statement}
@@ -45,12 +46,12 @@ found c =
     record { job = job; inside = rw (count-of-runs _ _ job) at (found-inside _ _ _ named) }
 
 reduce-requires : tie.Need-reduce-requires
-reduce-requires c κs = found c
+reduce-requires c κs = (found c, (omega arith, omega arith))
 
 hand-over-requires : tie.Need-hand-over-requires
 hand-over-requires c κs =
     let r = found (c .before .before .before) in
-    rw (c .before .before .reduce .ensures) (found-few _ _ (r .job .clear) _ (r .inside))
+    rw (c .before .before .reduce .ensures, judged-all) (found-few _ _ (r .job .clear) _ (r .inside))
 
 same-length : tie.Need-same-length
 same-length c = search needs
@@ -61,7 +62,7 @@ same-length-2 c = search needs
 returns-3 : tie.Need-returns-3
 returns-3 c =
     let at = c .before .before .before .before .before .before .before .before in
-    let whole = one-run _ _ _ _ _ _ (found at .job) (at .before .before .before .find-run .ensures) (at .before .which .given .1) (c .before .before .before .before .before .before .before .reduce .ensures) in
+    let whole = one-run _ _ _ _ _ _ (found at .job) (at .before .before .before .find-run .ensures) (at .before .which .given .1) (c .before .before .before .before .before .before .before .reduce .ensures ∙ judged-all _ _ _) in
     came-same whole (c .before .before .before .before .hand-over .ensures)
 
 pub reduce-by-spec : {M : Type 1} → statement M

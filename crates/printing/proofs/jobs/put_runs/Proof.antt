@@ -4,6 +4,7 @@ use native.Mathlib.Omega.{arith}
 use Rattle.reduction.specs.Reducing.{ClearRun, reducedRun}
 use Rattle.job.proofs.ReadJobs.{count-of-runs, few-runs}
 use Rattle.reduction.proofs.ClearJobs.{found-few}
+use Rattle.reduction.proofs.Working.{judged-all}
 use Rattle.output.specs.Bytes.{joined}
 use Rattle.characters.specs.Writing.{Room, Wrote}
 use Rattle.characters.proofs.Texts.{joined-none, joined-room, joined-more, joined-all}
@@ -35,12 +36,12 @@ clear-run c =
     record { job = start .pre .0; inside = rw (count-of-runs _ _ (start .pre .0)) at (c .loop-test .taken) }
 
 reduce-requires : tie.Need-reduce-requires Inv-loop μ-loop
-reduce-requires c κs = clear-run (c .before)
+reduce-requires c κs = (clear-run (c .before), (omega arith, omega arith))
 
 put-run-requires : tie.Need-put-run-requires Inv-loop μ-loop
 put-run-requires c κs =
     let r = clear-run (c .before .before) in
-    rw (c .reduce .ensures) (found-few _ _ (r .job .clear) _ (r .inside), joined-room _ (c .before .before .before .loop .inv .1) (room (c .before .before .before .before .before .before)) (c .before .before .loop-test .taken))
+    rw (c .reduce .ensures, judged-all) (found-few _ _ (r .job .clear) _ (r .inside), joined-room _ (c .before .before .before .loop .inv .1) (room (c .before .before .before .before .before .before)) (c .before .before .loop-test .taken))
 
 add-k : tie.Need-add-k Inv-loop μ-loop
 add-k c = omega (arith, c .before .before .before .before .before .loop-test .taken, few-runs _ _ (c .before .before .before .before .before .before .before .before .before .pre .0))
@@ -51,7 +52,7 @@ loop-less c = omega (arith, c .before .before .before .before .before .loop-test
 loop-again : tie.Need-loop-again Inv-loop μ-loop
 loop-again c =
     let inside = c .before .before .before .before .before .loop-test .taken in
-    let w = rw (c .before .before .before .reduce .ensures) at (c .before .before .put-run .ensures) in
+    let w = rw (c .before .before .before .reduce .ensures, judged-all) at (c .before .before .put-run .ensures) in
     (omega (arith, inside), joined-more _ (c .before .before .before .before .before .before .loop .inv .1) (room (c .before .before .before .before .before .before .before .before .before)) inside w)
 
 same-length : tie.Need-same-length Inv-loop μ-loop
