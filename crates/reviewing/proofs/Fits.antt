@@ -26,7 +26,8 @@ use Rattle.classes.specs.Classes.{placesOf}
 use Rattle.rules.specs.declared.Beside.{Beside}
 use Rattle.rules.specs.Rules.{Rule, table, groundIn, groundOf}
 use Rattle.findings.specs.Listing.{partOf, besideOf, linesFor}
-use Rattle.explaining.specs.Explaining.{indexOf, speaksOf, groundAt, groundFor}
+use Rattle.findings.specs.Seeking.{indexOf, speaksOf, groundAt}
+use Rattle.explaining.specs.Explaining.{groundFor}
 use Rattle.opening.specs.Opening.{versionOf}
 use Rattle.job.specs.Places.{runOf}
 use Rattle.job.proofs.ClearJobs.{clear-run, clear-certificate}

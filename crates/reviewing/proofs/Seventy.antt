@@ -37,7 +37,8 @@ use Rattle.dates.proofs.Entries.{one-a-side}
 use Rattle.reasons.proofs.Lengths.{condition-bytes-length, day-bytes-length}
 use Rattle.explaining.specs.declared.Explanation.{Explanation}
 use Rattle.findings.specs.Listing.{partOf, besideOf, linesFor}
-use Rattle.explaining.specs.Explaining.{indexOf, speaksOf, groundAt, groundFor, explanation}
+use Rattle.findings.specs.Seeking.{indexOf, speaksOf, groundAt}
+use Rattle.explaining.specs.Explaining.{groundFor, explanation}
 use Rattle.explanations.specs.declared.Form.the-variants.{Bytes}
 use Rattle.explanations.specs.Written.{headIn, conditionIn, conditionsIn, dayIn, sidesIn, daysIn, written}
 use Rattle.explanations.proofs.Lengths.{shown-few, at-most-two}
