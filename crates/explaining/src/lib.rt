@@ -34,14 +34,7 @@ pub enum Explained {
 }
 
 // Why run k of a job without trouble has the finding of that rule at that place, by the ground that its rule goes by there.
-fn explanation_by(
-    ground: Ground,
-    s: &[u8],
-    job: Job,
-    k: usize,
-    rule: u8,
-    place: u16,
-) -> Explanation
+fn explanation_by(ground: Ground, s: &[u8], job: Job, k: usize, rule: u8, place: u16) -> Explanation
     requires { ⌜ ClearRun (now s) job k ⌝ }
     ensures { λ r. ⌜ r ≡ explanationBy ground (versionOf (now (s .entry))) (certificateOf (now (s .entry))) (certificateCountOf (now (s .entry))) (runOf (now (s .entry)) k) rule place ⌝ }
 {

@@ -2,10 +2,9 @@
 use Prim.Native.Nat.{ℕ, zero, suc, _+_, _-_, _≤_, _<_, zero-le}
 use mathlib.Core.Path.{_≡_, refl, sym, _∙_, ap}
 use mathlib.Core.Bool.{Bool, true, false, cond}
-use mathlib.Core.List.{List, [], _∷_, _++_}
+use mathlib.Core.List.{List, [], _++_}
 use mathlib.Core.Logic.{_⊎_, inl, inr}
 use native.Mathlib.Nat.{le-refl, le-of-lt, le-trans, eq-or-lt-of-le}
-use native.Mathlib.Numerals.{add-one}
 use native.Mathlib.Omega.{arith}
 use borrow.Author.Tests.{lt-ltb, le-ltb}
 use lib.Dec.{ltb}
@@ -27,7 +26,7 @@ use Rattle.findings.specs.declared.Findings.{Findings}
 use Rattle.findings.specs.declared.Sought.{Sought}
 use Rattle.findings.specs.declared.Sought.the-variants.{All, Why}
 use Rattle.findings.specs.declared.Walked.{Walked}
-use Rattle.findings.specs.Listing.{partOf, besideOf, brokenAt, findingAt, ruleFindings, findingsTo, findings, mostFindings, listed, Worked}
+use Rattle.findings.specs.Listing.{partOf, besideOf, brokenAt, ruleFindings, findingsTo, findings, mostFindings, listed, Worked}
 use Rattle.findings.specs.Seeking.{indexOf, groundAt, beforeOf, lastOf, placeOf, listFor, walked}
 use Rattle.findings.proofs.Filling.{Entered, entered-listed, rule-more, rule-rising, rules-rising, fewer}
 use Rattle.findings.proofs.Most.{at-most}

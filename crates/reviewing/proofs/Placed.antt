@@ -1,24 +1,17 @@
 -- Over every run, rule and place: the run has the finding exactly when what its rule goes by there is broken.
-use Prim.Native.Nat.{ℕ, _+_, _≤_, _<_}
-use mathlib.Core.Path.{_≡_, refl, sym, _∙_, ap}
-use mathlib.Core.Bool.{Bool, true, false, true≢false, cond, _||_}
+use Prim.Native.Nat.{ℕ, _≤_, _<_}
+use mathlib.Core.Path.{_≡_, sym, _∙_, ap}
+use mathlib.Core.Bool.{true}
 use mathlib.Core.List.{List, []}
 use native.Mathlib.Decide.{decLt}
 use native.Mathlib.Omega.{arith}
-use borrow.Author.Tests.{eqb-true, ltb-true, ltb-false, eqb-false}
-use lib.Dec.{eqb, ltb}
-use Rattle.records.specs.declared.Counts.{Counts}
 use Rattle.records.specs.declared.Run.{Run}
 use Rattle.lines.specs.declared.Lines.{Lines}
 use Rattle.choosing.specs.declared.Chosen.{Chosen}
 use Rattle.steps.specs.declared.Figure.{Figure}
-use Rattle.grounds.specs.declared.Ground.{Ground}
-use Rattle.grounds.specs.declared.Ground.the-variants.{Silent}
 use Rattle.grounds.specs.Grounds.{broken}
-use Rattle.conditions.specs.declared.Part.{Part}
 use Rattle.classes.specs.Classes.{placesOf, placeAt}
-use Rattle.rules.specs.declared.Beside.{Beside}
-use Rattle.rules.specs.Rules.{lastRule, table, groundOf}
+use Rattle.rules.specs.Rules.{lastRule, groundOf}
 use Rattle.opening.specs.Opening.{versionOf}
 use Rattle.job.specs.Places.{runOf}
 use Rattle.reduction.specs.Reducing.{chosenIn}

@@ -29,7 +29,11 @@ fn reduce_by(figure: Figure, job: &[u8], run: u16, lines: &mut [u8], findings: &
     let Which::Index(k) = which else {
         return Answer::Refused(Answer::UNKNOWN_RUN, 0);
     };
-    hand_over(reduction::reduce(job, read, figure, k, Sought::All), lines, findings)
+    hand_over(
+        reduction::reduce(job, read, figure, k, Sought::All),
+        lines,
+        findings,
+    )
 }
 
 // Works the run of that number without a figure. The header is judged by itself, so that a file which is no job is answered

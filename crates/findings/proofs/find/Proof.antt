@@ -3,10 +3,10 @@
 -- The loops see the run's header and lists and what stands beside them; what they find is the run's, with its certificates and lines.
 use Prim.Native.Nat.{ℕ, _+_, _-_, _≤_, _<_}
 use mathlib.Core.Path.{_≡_, _∙_, sym, ap}
-use mathlib.Core.Bool.{Bool, true, false, true≢false}
+use mathlib.Core.Bool.{Bool, true, true≢false}
 use mathlib.Core.List.{List, _++_}
 use mathlib.Core.Logic.{⊎-elim}
-use native.Mathlib.Nat.{le-refl, le-trans, lt-of-lt-of-le}
+use native.Mathlib.Nat.{le-refl, le-trans}
 use borrow.Author.Needs.{needs}
 use native.Mathlib.Omega.{arith}
 use lib.ListN.{length}
@@ -16,10 +16,10 @@ use Rattle.records.specs.declared.Weighing.{Weighing}
 use Rattle.records.specs.declared.RunHeader.{RunHeader}
 use Rattle.rules.specs.declared.Beside.{Beside}
 use Rattle.grounds.specs.Grounds.{broken}
-use Rattle.classes.specs.Classes.{placesOf, placeAt}
+use Rattle.classes.specs.Classes.{placesOf}
 use Rattle.rules.specs.Rules.{lastRule, groundOf}
 use Rattle.findings.specs.declared.Finding.{Finding}
-use Rattle.findings.specs.Listing.{partOf, brokenAt, findingAt, findingsTo, ruleFindings, mostFindings}
+use Rattle.findings.specs.Listing.{partOf, findingAt, findingsTo, ruleFindings, mostFindings}
 use Rattle.arrays.proofs.Filled.{filled-none}
 use Rattle.findings.proofs.Filling.{Entered, entered-first, entered-room, entered-found, entered-passed, entered-rule, fewer}
 use Rattle.findings.proofs.Places.{part-point, part-segment, part-weighing, part-whole}
@@ -86,8 +86,7 @@ isBroken b rule i = broken (groundOf (partOf (start b .args .run) rule i) (besid
 
 loop-holds : tie.Need-loop-holds Inv-loop2 μ-loop2 Inv-loop μ-loop
 loop-holds c =
-    let some = start c .pre .1 .0 in
-    (
+    let some = start c .pre .1 .0 in (
       (le-refl _, omega (arith, some, c .before2 .ensures, c .before .before .last .ensures)),
       (
         (λ rule above below. absurd (omega (arith, above, below))),
@@ -200,7 +199,7 @@ returns c =
     let b = begun turn in
     let judged = c .before .before .before .before in
     met _ _ _ _ _ (start b .args .sought) (b .before2 .result) _ _ (b .before .before .before .beside-of .ensures) (b .before2 .ensures) (b .before .place .ensures) (above turn)
-    (rw (b .before .before .last .ensures) at (turn .before .before .before .loop-test .taken))
+    (omega (arith, turn .before .before .before .loop-test .taken, turn .before .before .before .before .loop .inv .0 .1, b .before .before .last .ensures))
     (place-in turn)
     (omega (arith, turn .loop2-test .taken))
     (sym (ap (λ (f : Finding). f .place) (c .before .before .finding-at .ensures)) ∙ c .if2 .taken)
@@ -261,8 +260,7 @@ loop-again c =
     let all : c .before .loop2 .i ≡ c .before .before .places .result = omega arith in
     let inside = c .before .loop2 .inv in
     let above = c .before .before .before .before .loop .inv in
-    let last-place = all ∙ c .before .before .places .ensures in
-    (
+    let last-place = all ∙ c .before .before .places .ensures in (
       (omega (arith, above .0 .0), omega (arith, c .before .before .before .loop-test .taken)),
       (
         passed-rule _ _ _ _ _ (rw last-place at (inside .1 .0)) (above .1 .0),
