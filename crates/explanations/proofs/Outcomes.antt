@@ -16,7 +16,7 @@ use Rattle.reduction.specs.declared.Which.the-variants.{Index, NoRun}
 use Rattle.reduction.specs.Reducing.{runNamed}
 use Rattle.output.specs.declared.Answer.{Answer}
 use Rattle.output.specs.declared.Answer.the-variants.{Refused}
-use Rattle.printing.specs.Printing.{Printing, unprinted, printingAnswer, printingOut, Printed, HandsOver}
+use Rattle.printed.specs.Printing.{Printing, unprinted, printingAnswer, printingOut, Printed, HandsOver}
 use Rattle.explaining.specs.declared.Explanation.{Explanation}
 use Rattle.explaining.specs.declared.Explained.{Explained}
 use Rattle.explaining.specs.declared.Explained.the-variants.{NoFinding, Because}

@@ -15,7 +15,7 @@ use Rattle.reduction.specs.declared.Which.the-variants.{Index, NoRun}
 use Rattle.reduction.specs.Reducing.{runNamed}
 use Rattle.output.specs.declared.Answer.{Answer}
 use Rattle.output.specs.Answers.{unknownRun, unknownFinding}
-use Rattle.printing.specs.Printing.{Printing, unprinted, ifFits, unprintedIfBad, Printed}
+use Rattle.printed.specs.Printing.{Printing, unprinted, ifFits, unprintedIfBad, Printed}
 use Rattle.explaining.specs.declared.Explained.{Explained}
 use Rattle.explaining.specs.declared.Explained.the-variants.{NoFinding, Because}
 use Rattle.explaining.specs.Explaining.{explainedRun}

@@ -12,7 +12,7 @@ use reduction::Which;
 use reduction::find_run;
 use steps::Figure;
 ghost use Rattle.figures.specs.Figures.{readFigure};
-ghost use Rattle.printing.specs.Printing.{HandsOver};
+ghost use Rattle.printed.specs.Printing.{HandsOver};
 ghost use Rattle.explanations.specs.Written.{written};
 ghost use Rattle.explanations.specs.Outcomes.{Explains, ExplainsBy};
 

@@ -21,7 +21,7 @@ use Rattle.reduction.specs.Reducing.{chosenIn, runNamed}
 use Rattle.reduction.proofs.Naming.{found-inside, named, none-named}
 use Rattle.findings.specs.Listing.{HasFinding}
 use Rattle.output.specs.Answers.{packed}
-use Rattle.printing.specs.Printing.{Printing, unprinted, printed, ifFits, unprintedIfBad, printingAnswer, printingOut}
+use Rattle.printed.specs.Printing.{Printing, unprinted, printed, ifFits, unprintedIfBad, printingAnswer, printingOut}
 use Rattle.explaining.specs.declared.Explained.the-variants.{NoFinding, Because}
 use Rattle.explaining.specs.Explaining.{explanation, explained, explainedRun}
 use Rattle.explanations.specs.declared.Form.{Form}

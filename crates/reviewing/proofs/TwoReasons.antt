@@ -15,7 +15,7 @@ use Rattle.heads.specs.Values.{certificateOf}
 use Rattle.opening.specs.Opening.{versionOf, certificateCountOf}
 use Rattle.job.specs.Places.{runOf}
 use Rattle.output.specs.Answers.{packed}
-use Rattle.printing.specs.Printing.{unprintedIfBad, printingAnswer, printingOut}
+use Rattle.printed.specs.Printing.{unprintedIfBad, printingAnswer, printingOut}
 use Rattle.dates.specs.Dates.{daysOf}
 use Rattle.explaining.specs.Explaining.{explanation, explained, explainedRun}
 use Rattle.explanations.specs.declared.Form.{Form}

@@ -4,7 +4,7 @@ use mathlib.Core.Path.{_∙_, sym, ap}
 use native.Mathlib.Omega.{arith}
 use lib.ListN.{length, length-replicate}
 use Rattle.characters.proofs.Texts.{written-end}
-use Rattle.printing.proofs.Printing.{refused-short, handed-over, Beside, beside}
+use Rattle.printed.proofs.Printing.{refused-short, handed-over, Beside, beside}
 use Rattle.explanations.specs.Written.{written}
 use Rattle.explanations.proofs.Lengths.{written-short}
 use borrow.Author.Needs.{needs}

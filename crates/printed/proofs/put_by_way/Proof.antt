@@ -5,11 +5,12 @@ use mathlib.Core.Path.{_∙_, sym, ap}
 use native.Mathlib.Omega.{arith}
 use lib.ListN.{length, length-replicate}
 use Rattle.characters.proofs.Texts.{written-end}
 use Rattle.printing.specs.Jobs.{jobText}
 use Rattle.printing.proofs.Lengths.{text-most}
-use Rattle.printing.proofs.Printing.{text-of-runs, end-fits, refused-short, handed-over, Beside, beside}
-use Rattle.printing.proofs.calls.put_by_way.Statement.{statement}
-use Rattle.printing.proofs.calls.put_by_way.Tie as tie
+use Rattle.printing.proofs.ClearJobs.{text-of-runs}
+use Rattle.printed.proofs.Printing.{end-fits, refused-short, handed-over, Beside, beside}
+use Rattle.printed.proofs.put_by_way.Statement.{statement}
+use Rattle.printed.proofs.put_by_way.Tie as tie
 
 slice-aggregate-put-runs : tie.Need-slice-aggregate-put-runs
 slice-aggregate-put-runs c = search needs

@@ -4,11 +4,12 @@ use native.Mathlib.Omega.{arith}
 use Rattle.job.proofs.ReadJobs.{read-clear, place-fits}
 use Rattle.characters.specs.Writing.{Wrote}
 use Rattle.characters.proofs.Texts.{written-end}
 use Rattle.printing.specs.Jobs.{jobText}
 use Rattle.printing.proofs.Lengths.{text-most}
-use Rattle.printing.proofs.Printing.{text-of-runs, end-fits, refused-by-reader, handed-over, of-clear}
-use Rattle.printing.proofs.calls.sheet_text.Statement.{statement}
-use Rattle.printing.proofs.calls.sheet_text.Tie as tie
+use Rattle.printing.proofs.ClearJobs.{text-of-runs}
+use Rattle.printed.proofs.Printing.{end-fits, refused-by-reader, handed-over, of-clear}
+use Rattle.printed.proofs.sheet_text.Statement.{statement}
+use Rattle.printed.proofs.sheet_text.Tie as tie
 
 read-requires : tie.Need-read-requires
 read-requires c κs = search needs

@@ -2,9 +2,9 @@
 use native.Mathlib.Omega.{arith}
 use borrow.Author.Needs.{needs}
 use Rattle.figures.proofs.Clear.{fourteen-fits}
-use Rattle.printing.proofs.Printing.{refused-by-figure, by-good-figure}
-use Rattle.printing.proofs.calls.sheet_text_by_figure.Statement.{statement}
-use Rattle.printing.proofs.calls.sheet_text_by_figure.Tie as tie
+use Rattle.printed.proofs.Printing.{refused-by-figure, by-good-figure}
+use Rattle.printed.proofs.sheet_text_by_figure.Statement.{statement}
+use Rattle.printed.proofs.sheet_text_by_figure.Tie as tie
 
 read-requires : tie.Need-read-requires
 read-requires c κs = search needs

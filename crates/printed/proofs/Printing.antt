@@ -10,19 +10,14 @@ use Rattle.steps.specs.declared.Figure.{Figure}
 use Rattle.figures.specs.declared.Supplied.{Supplied}
 use Rattle.job.specs.declared.Job.{Job}
 use Rattle.job.specs.Reading.{readJob, ClearJob}
-use Rattle.job.proofs.ReadJobs.{count-of-runs, read-refused}
+use Rattle.job.proofs.ReadJobs.{read-refused}
 use Rattle.output.specs.declared.Answer.{Answer}
 use Rattle.output.specs.declared.Answer.the-variants.{Done, Refused}
 use Rattle.characters.specs.Writing.{Wrote}
 use Rattle.characters.proofs.Texts.{written-end, written-front}
-use Rattle.printing.specs.Jobs.{runsText, jobText}
-use Rattle.printing.specs.Printing.{ifFits, printing, printingAnswer, printingOut, HandsOver, Prints, PrintsBy}
+use Rattle.printing.specs.Jobs.{jobText}
 use Rattle.printing.proofs.Lengths.{text-most}
-
--- the text of a job without trouble is that of its runs
-pub text-of-runs : (fig : Figure) (s : List ℕ) (j : Job) → ClearJob s j → runsText fig s (j .runs) ≡ jobText fig s
-unfolding jobText
-text-of-runs fig s j ok = rw (ok .clear) (ap (runsText fig s) (count-of-runs s j ok))
+use Rattle.printed.specs.Printing.{ifFits, printing, printingAnswer, printingOut, HandsOver, Prints, PrintsBy}
 
 -- a text's length fits 32 bits
 pub end-fits : (fig : Figure) (s : List ℕ) {end : ℕ} → end ≡ length (jobText fig s) → end < 2 ^ 32

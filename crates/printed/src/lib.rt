@@ -1,16 +1,17 @@
 // The calls for the text of a job, by a figure or without one, with their answer as an enum.
+// Relies on what is printed of a job, on the reader and on how a word is written.
 
-use crate::jobs::ROOM;
-use crate::jobs::put_runs;
 use characters::put_word;
 use fields::trouble::Trouble;
 use job::Job;
 use output::Answer;
+use printing::jobs::ROOM;
+use printing::jobs::put_runs;
 use steps::Figure;
 ghost use Rattle.figures.specs.Figures.{readFigure};
 ghost use Rattle.job.specs.Reading.{ClearJob};
 ghost use Rattle.printing.specs.Jobs.{jobText};
-ghost use Rattle.printing.specs.Printing.{HandsOver, Prints, PrintsBy};
+ghost use Rattle.printed.specs.Printing.{HandsOver, Prints, PrintsBy};
 
 // The text of a job without trouble, by way of a buffer with room for any: how long it is shows only once it is
 // written, and an output that turns out too short stays as it was.
