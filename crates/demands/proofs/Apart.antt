@@ -45,8 +45,8 @@ use Rattle.explaining.specs.declared.Explained.the-variants.{NoFinding, Because
 use Rattle.explaining.specs.Explaining.{explainedRun}
 use Rattle.explanations.specs.declared.Form.{Form}
 use Rattle.explanations.specs.Written.{written}
-use Rattle.explanations.specs.Outcomes.{ofExplained, ofNamedRun, unlessJobTrouble, explaining}
 use Rattle.explanations.proofs.Lengths.{written-short}
+use Rattle.asking.specs.Outcomes.{ofExplained, ofNamedRun, unlessJobTrouble, explaining}
 use Rattle.demands.specs.FigureFile.{Lent, supplied, figureIn}
 use Rattle.demands.proofs.FigureFile.{bad-lent}
 use Rattle.demands.specs.Demands.{Given, toReduce, toRunCount, toRunNumber, toSheetText, toExplain, toRoundLayout, toRectLayout}

@@ -28,7 +28,7 @@ use Rattle.handing.specs.Handing.{success, answerOf}
 use Rattle.counting.specs.Counting.{countAnswer, numberAnswer}
 use Rattle.runs.specs.Outcomes.{outcomeBy}
 use Rattle.explanations.specs.declared.Form.{Form}
-use Rattle.explanations.specs.Outcomes.{explainingBy}
+use Rattle.asking.specs.Outcomes.{explainingBy}
 use Rattle.leverbonnet.specs.Calls.{Reduces}
 use Rattle.steps.specs.declared.Figure.{Figure}
 use Rattle.demands.specs.FigureFile.{Lent, supplied, figureIn, GoodLent}

@@ -10,7 +10,7 @@ use Rattle.layouts.specs.Outcomes.{LayoutOutcome, layoutAnswer, layoutOut}
 use Rattle.handing.specs.Handing.{answerOf, linesAfter, findingsAfter}
 use Rattle.runs.specs.Outcomes.{outcomeBy}
 use Rattle.explanations.specs.declared.Form.{Form}
-use Rattle.explanations.specs.Outcomes.{explainingBy}
+use Rattle.asking.specs.Outcomes.{explainingBy}
 
 -- leverbonnet_reduce, and the same by a figure: the answer, and every byte of both buffers
 pub record Reduces (f : Supplied) (s : List ℕ) (run : ℕ) (linesIn findingsIn linesOut findingsOut : List ℕ) (r : ℕ) : Type 0 where

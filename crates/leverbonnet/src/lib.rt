@@ -10,9 +10,9 @@ ghost use Rattle.counting.specs.Counting.{countAnswer, numberAnswer};
 ghost use Rattle.figures.specs.Figures.{noneSupplied, readFigure};
 ghost use Rattle.explanations.specs.declared.Form.the-variants.{Bytes, Text};
 ghost use Rattle.leverbonnet.specs.Calls.{Reduces, PrintsText, ExplainsFinding, LaysOut};
+use asking::explain;
+use asking::explain_by_figure;
 use explanations::Form;
-use explanations::calls::explain;
-use explanations::calls::explain_by_figure;
 
 // Works the run of that number: 180 bytes of lines, 4 bytes a finding.
 #[no_mangle]

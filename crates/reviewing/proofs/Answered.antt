@@ -26,7 +26,7 @@ use Rattle.explaining.specs.declared.Explained.the-variants.{NoFinding, Because
 use Rattle.explaining.specs.Explaining.{explanation, explained, explainedRun}
 use Rattle.explanations.specs.declared.Form.{Form}
 use Rattle.explanations.specs.Written.{written}
-use Rattle.explanations.specs.Outcomes.{ofExplained, ofNamedRun, unlessJobTrouble, explaining, explainingBy}
+use Rattle.asking.specs.Outcomes.{ofExplained, ofNamedRun, unlessJobTrouble, explaining, explainingBy}
 use Rattle.demands.specs.FigureFile.{Lent, supplied, figureIn, GoodLent}
 use Rattle.demands.specs.Demands.{OnlyRun}
 use Rattle.demands.proofs.FigureFile.{lent-clear, clear-lent, bad-file, bad-lent}
