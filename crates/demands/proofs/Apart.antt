@@ -34,8 +34,8 @@ use Rattle.distances.proofs.RectangleLaws.{rectangle-ok, grid-ok}
 use Rattle.traverse.proofs.Theorems.{round-length, rectangle-length}
 use Rattle.writing.specs.Bytes.{sheetSize, findingSize}
 use Rattle.printing.specs.Jobs.{jobText}
-use Rattle.printing.specs.Printing.{unprinted, printed, ifFits, unlessTrouble, printing, unprintedIfBad, printingAnswer}
 use Rattle.printing.proofs.Lengths.{text-most}
+use Rattle.printed.specs.Printing.{unprinted, printed, ifFits, unlessTrouble, printing, unprintedIfBad, printingAnswer}
 use Rattle.layouts.specs.Outcomes.{distanceSize, ifRoom, lentOutcome, layoutOutcome, roundOutcome, rectangleOutcome, layoutAnswer}
 use Rattle.handing.specs.Handing.{refused, reduced, handed, success, answerOf}
 use Rattle.counting.specs.Counting.{countOf, countAnswer, numberAt, numberAnswer}
@@ -45,8 +45,8 @@ use Rattle.explaining.specs.declared.Explained.the-variants.{NoFinding, Because
 use Rattle.explaining.specs.Explaining.{explainedRun}
 use Rattle.explanations.specs.declared.Form.{Form}
 use Rattle.explanations.specs.Written.{written}
-use Rattle.explanations.specs.Outcomes.{ofExplained, ofNamedRun, unlessJobTrouble, explaining}
 use Rattle.explanations.proofs.Lengths.{written-short}
+use Rattle.asking.specs.Outcomes.{ofExplained, ofNamedRun, unlessJobTrouble, explaining}
 use Rattle.demands.specs.FigureFile.{Lent, supplied, figureIn}
 use Rattle.demands.proofs.FigureFile.{bad-lent}
 use Rattle.demands.specs.Demands.{Given, toReduce, toRunCount, toRunNumber, toSheetText, toExplain, toRoundLayout, toRectLayout}

@@ -15,7 +15,7 @@ use Rattle.job.proofs.ClearJobs.{job-clear, job-end}
 use Rattle.job.proofs.Reach.{start-reach}
 use Rattle.job.proofs.WholeFile.{run-count}
 use Rattle.printing.specs.Jobs.{textOf, jobText}
-use Rattle.printing.specs.Printing.{printing, unlessTrouble, unprintedIfBad}
+use Rattle.printed.specs.Printing.{printing, unlessTrouble, unprintedIfBad}
 use Rattle.counting.specs.Counting.{countOf, countAnswer, numberAt, numberAnswer}
 use Rattle.runs.specs.Outcomes.{ofTrouble, outcome, unlessBadFigure}
 use Rattle.demands.specs.FigureFile.{supplied, figureIn}

@@ -5,7 +5,7 @@ use mathlib.Core.List.{List}
 use lib.ListN.{length}
 use Rattle.figures.specs.declared.Supplied.{Supplied}
 use Rattle.output.specs.Answers.{packed}
-use Rattle.printing.specs.Printing.{printingBy, printingAnswer, printingOut}
+use Rattle.printed.specs.Printing.{printingBy, printingAnswer, printingOut}
 use Rattle.handing.specs.Handing.{answerOf, linesAfter, findingsAfter}
 use Rattle.runs.specs.Outcomes.{outcomeBy}
 use Rattle.leverbonnet.specs.Calls.{Reduces, PrintsText}

@@ -22,13 +22,13 @@ use Rattle.output.specs.declared.Answer.the-variants.{Done, Refused}
 use Rattle.output.specs.Answers.{packed}
 use Rattle.output.specs.Splice.{spliced}
 use Rattle.writing.specs.Bytes.{lineSize, entryBytes, sheetSize, sheetBytes, findingSize, findingBytes, findingsBytes}
-use Rattle.printing.specs.Printing.{printingBy, printingAnswer}
+use Rattle.printed.specs.Printing.{printingBy, printingAnswer}
 use Rattle.layouts.specs.Outcomes.{roundOutcome, rectangleOutcome, layoutAnswer}
 use Rattle.handing.specs.Handing.{success, answerOf}
 use Rattle.counting.specs.Counting.{countAnswer, numberAnswer}
 use Rattle.runs.specs.Outcomes.{outcomeBy}
 use Rattle.explanations.specs.declared.Form.{Form}
-use Rattle.explanations.specs.Outcomes.{explainingBy}
+use Rattle.asking.specs.Outcomes.{explainingBy}
 use Rattle.leverbonnet.specs.Calls.{Reduces}
 use Rattle.steps.specs.declared.Figure.{Figure}
 use Rattle.demands.specs.FigureFile.{Lent, supplied, figureIn, GoodLent}

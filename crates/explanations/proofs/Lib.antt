@@ -2,4 +2,3 @@
 pub mod Unused
 pub mod Shown
 pub mod Lengths
-pub mod Outcomes

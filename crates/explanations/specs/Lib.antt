@@ -1,3 +1,2 @@
--- An explanation written, and what comes of the call for it.
+-- An explanation written.
 pub mod Written
-pub mod Outcomes

@@ -5,12 +5,12 @@ use mathlib.Core.List.{List}
 use lib.ListN.{length}
 use Rattle.figures.specs.declared.Supplied.{Supplied}
 use Rattle.output.specs.Answers.{packed}
-use Rattle.printing.specs.Printing.{printingBy, printingAnswer, printingOut}
+use Rattle.printed.specs.Printing.{printingBy, printingAnswer, printingOut}
 use Rattle.layouts.specs.Outcomes.{LayoutOutcome, layoutAnswer, layoutOut}
 use Rattle.handing.specs.Handing.{answerOf, linesAfter, findingsAfter}
 use Rattle.runs.specs.Outcomes.{outcomeBy}
 use Rattle.explanations.specs.declared.Form.{Form}
-use Rattle.explanations.specs.Outcomes.{explainingBy}
+use Rattle.asking.specs.Outcomes.{explainingBy}
 
 -- leverbonnet_reduce, and the same by a figure: the answer, and every byte of both buffers
 pub record Reduces (f : Supplied) (s : List ℕ) (run : ℕ) (linesIn findingsIn linesOut findingsOut : List ℕ) (r : ℕ) : Type 0 where

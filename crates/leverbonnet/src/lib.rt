@@ -10,9 +10,9 @@ ghost use Rattle.counting.specs.Counting.{countAnswer, numberAnswer};
 ghost use Rattle.figures.specs.Figures.{noneSupplied, readFigure};
 ghost use Rattle.explanations.specs.declared.Form.the-variants.{Bytes, Text};
 ghost use Rattle.leverbonnet.specs.Calls.{Reduces, PrintsText, ExplainsFinding, LaysOut};
+use asking::explain;
+use asking::explain_by_figure;
 use explanations::Form;
-use explanations::calls::explain;
-use explanations::calls::explain_by_figure;
 
 // Works the run of that number: 180 bytes of lines, 4 bytes a finding.
 #[no_mangle]
@@ -62,7 +62,7 @@ pub extern "C" fn leverbonnet_run_number(job: &[u8], index: u16) -> u64
 pub extern "C" fn leverbonnet_sheet_text(job: &[u8], out: &mut [u8]) -> u64
     ensures { λ r. ⌜ PrintsText noneSupplied (now (job .entry)) (now (out .entry)) (now (out .exit)) r ⌝ }
 {
-    printing::calls::sheet_text(steps::none(), job, out).packed()
+    printed::sheet_text(steps::none(), job, out).packed()
 }
 
 // The same by a figure, which is judged before the job is read.
@@ -70,7 +70,7 @@ pub extern "C" fn leverbonnet_sheet_text(job: &[u8], out: &mut [u8]) -> u64
 pub extern "C" fn leverbonnet_sheet_text_by_figure(figure: &[u8], job: &[u8], out: &mut [u8]) -> u64
     ensures { λ r. ⌜ PrintsText (readFigure (now (figure .entry))) (now (job .entry)) (now (out .entry)) (now (out .exit)) r ⌝ }
 {
-    printing::calls::sheet_text_by_figure(figure, job, out).packed()
+    printed::sheet_text_by_figure(figure, job, out).packed()
 }
 
 // Explains the finding of that rule at that place of the run of that number: 2 bytes, 34 bytes a condition, 5 bytes a certificate day.

@@ -1,3 +1,3 @@
--- How long what is printed can be, and what comes of the call for it.
+-- How long what is printed can be, and what is printed of a job without trouble.
 pub mod Lengths
-pub mod Printing
+pub mod ClearJobs

@@ -1,3 +1,2 @@
--- What is printed of a job, and what comes of the call for it.
+-- What is printed of a job.
 pub mod Jobs
-pub mod Printing

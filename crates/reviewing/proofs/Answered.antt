@@ -21,12 +21,12 @@ use Rattle.reduction.specs.Reducing.{chosenIn, runNamed}
 use Rattle.reduction.proofs.Naming.{found-inside, named, none-named}
 use Rattle.findings.specs.Listing.{HasFinding}
 use Rattle.output.specs.Answers.{packed}
-use Rattle.printing.specs.Printing.{Printing, unprinted, printed, ifFits, unprintedIfBad, printingAnswer, printingOut}
+use Rattle.printed.specs.Printing.{Printing, unprinted, printed, ifFits, unprintedIfBad, printingAnswer, printingOut}
 use Rattle.explaining.specs.declared.Explained.the-variants.{NoFinding, Because}
 use Rattle.explaining.specs.Explaining.{explanation, explained, explainedRun}
 use Rattle.explanations.specs.declared.Form.{Form}
 use Rattle.explanations.specs.Written.{written}
-use Rattle.explanations.specs.Outcomes.{ofExplained, ofNamedRun, unlessJobTrouble, explaining, explainingBy}
+use Rattle.asking.specs.Outcomes.{ofExplained, ofNamedRun, unlessJobTrouble, explaining, explainingBy}
 use Rattle.demands.specs.FigureFile.{Lent, supplied, figureIn, GoodLent}
 use Rattle.demands.specs.Demands.{OnlyRun}
 use Rattle.demands.proofs.FigureFile.{lent-clear, clear-lent, bad-file, bad-lent}

@@ -15,11 +15,11 @@ use Rattle.heads.specs.Values.{certificateOf}
 use Rattle.opening.specs.Opening.{versionOf, certificateCountOf}
 use Rattle.job.specs.Places.{runOf}
 use Rattle.output.specs.Answers.{packed}
-use Rattle.printing.specs.Printing.{unprintedIfBad, printingAnswer, printingOut}
+use Rattle.printed.specs.Printing.{unprintedIfBad, printingAnswer, printingOut}
 use Rattle.dates.specs.Dates.{daysOf}
 use Rattle.explaining.specs.Explaining.{explanation, explained, explainedRun}
 use Rattle.explanations.specs.declared.Form.{Form}
-use Rattle.explanations.specs.Outcomes.{ofExplained, explaining}
+use Rattle.asking.specs.Outcomes.{ofExplained, explaining}
 use Rattle.leverbonnet.specs.Calls.{ExplainsFinding}
 use Rattle.demands.specs.FigureFile.{Lent, supplied, figureIn}
 use Rattle.demands.specs.Demands.{SameRun}

@@ -12,7 +12,7 @@ use Rattle.job.proofs.ReadJobs.{read-refused, read-clear}
 use Rattle.characters.specs.Writing.{Wrote}
 use Rattle.printing.specs.Jobs.{refusalText, jobText}
 use Rattle.printing.proofs.Lengths.{refusal-short}
-use Rattle.printing.proofs.Printing.{text-of-runs}
+use Rattle.printing.proofs.ClearJobs.{text-of-runs}
 use Rattle.printing.proofs.jobs.put_job.Statement.{statement}
 use Rattle.printing.proofs.jobs.put_job.Tie as tie
 

@@ -1,0 +1,2 @@
+-- The laws that the calls' proofs cite.
+pub mod Outcomes

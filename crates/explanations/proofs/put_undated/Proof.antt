@@ -1,0 +1,47 @@
+-- By the form.
+use Rattle.reasons.specs.Bytes.{dayBytes}
+use Rattle.explanations.specs.Written.{dayIn}
+use borrow.Author.Needs.{needs}
+use Rattle.explanations.proofs.put_undated.Statement.{statement}
+use Rattle.explanations.proofs.put_undated.Tie as tie
+
+enum-told : tie.Need-enum-told
+enum-told c = search needs
+
+put-day-requires : tie.Need-put-day-requires
+unfolding dayIn dayBytes
+put-day-requires c κs = rw (c .before .enum-told .given .1) at (c .before .before .before .before .pre)
+
+enum-told-2 : tie.Need-enum-told-2
+enum-told-2 c = search needs
+
+put-undated-requires : tie.Need-put-undated-requires
+unfolding dayIn dayBytes
+put-undated-requires c κs = rw (c .before .enum-told2 .given .1) at (c .before .before .before .before .pre)
+
+same-length : tie.Need-same-length
+same-length c = search needs
+
+returns : tie.Need-returns
+unfolding dayIn dayBytes
+returns c = rw (c .before .before .before .before .enum-told .given .1) (c .before .before .put-day .ensures)
+
+same-length-2 : tie.Need-same-length-2
+same-length-2 c = search needs
+
+returns-2 : tie.Need-returns-2
+unfolding dayIn dayBytes
+returns-2 c = rw (c .before .before .before .before .enum-told2 .given .1) (c .before .before .put-undated .ensures)
+
+pub put-undated-spec : {M : Type 1} → statement M
+put-undated-spec =
+    tie.close
+    (tie.spec
+    enum-told
+    put-day-requires
+    enum-told-2
+    put-undated-requires
+    same-length
+    returns
+    same-length-2
+    returns-2)

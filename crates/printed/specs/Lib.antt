@@ -1,0 +1,2 @@
+-- What comes of the calls for a job's text.
+pub mod Printing
