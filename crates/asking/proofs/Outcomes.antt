@@ -21,7 +21,7 @@ use Rattle.explaining.specs.declared.Explanation.{Explanation}
 use Rattle.explaining.specs.declared.Explained.{Explained}
 use Rattle.explaining.specs.declared.Explained.the-variants.{NoFinding, Because}
 use Rattle.explaining.specs.Explaining.{explainedRun}
-use Rattle.explanations.specs.declared.Form.{Form}
+use Rattle.forms.specs.declared.Form.{Form}
 use Rattle.explanations.specs.Written.{written}
 use Rattle.asking.specs.Outcomes.{ofExplained, explaining, Explains, ExplainsBy}
 

@@ -19,7 +19,7 @@ use Rattle.printed.specs.Printing.{Printing, unprinted, ifFits, unprintedIfBad,
 use Rattle.explaining.specs.declared.Explained.{Explained}
 use Rattle.explaining.specs.declared.Explained.the-variants.{NoFinding, Because}
 use Rattle.explaining.specs.Explaining.{explainedRun}
-use Rattle.explanations.specs.declared.Form.{Form}
+use Rattle.forms.specs.declared.Form.{Form}
 use Rattle.explanations.specs.Written.{written}
 
 -- 15: the run does not have that finding; 9: the output is shorter than its explanation

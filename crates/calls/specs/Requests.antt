@@ -8,7 +8,7 @@ use Rattle.output.specs.Answers.{packed}
 use Rattle.layouts.specs.Outcomes.{roundOutcome, rectangleOutcome}
 use Rattle.counting.specs.Counting.{countAnswer, numberAnswer}
 use Rattle.figures.specs.Figures.{noneSupplied, readFigure}
-use Rattle.explanations.specs.declared.Form.the-variants.{Bytes, Text}
+use Rattle.forms.specs.declared.Form.the-variants.{Bytes, Text}
 use Rattle.leverbonnet.specs.Calls.{Reduces, PrintsText, ExplainsFinding, LaysOut}
 
 -- The call's number, the three numbers that it takes, the figure and the job, both outputs before and after, and the answer

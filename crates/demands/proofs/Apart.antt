@@ -43,7 +43,7 @@ use Rattle.runs.specs.Outcomes.{ofRun, ofTrouble, outcome, unlessBadFigure}
 use Rattle.explaining.specs.declared.Explained.{Explained}
 use Rattle.explaining.specs.declared.Explained.the-variants.{NoFinding, Because}
 use Rattle.explaining.specs.Explaining.{explainedRun}
-use Rattle.explanations.specs.declared.Form.{Form}
+use Rattle.forms.specs.declared.Form.{Form}
 use Rattle.explanations.specs.Written.{written}
 use Rattle.explanations.proofs.Lengths.{written-short}
 use Rattle.asking.specs.Outcomes.{ofExplained, ofNamedRun, unlessJobTrouble, explaining}

@@ -27,7 +27,7 @@ use Rattle.layouts.specs.Outcomes.{roundOutcome, rectangleOutcome, layoutAnswer
 use Rattle.handing.specs.Handing.{success, answerOf}
 use Rattle.counting.specs.Counting.{countAnswer, numberAnswer}
 use Rattle.runs.specs.Outcomes.{outcomeBy}
-use Rattle.explanations.specs.declared.Form.{Form}
+use Rattle.forms.specs.declared.Form.{Form}
 use Rattle.asking.specs.Outcomes.{explainingBy}
 use Rattle.leverbonnet.specs.Calls.{Reduces}
 use Rattle.steps.specs.declared.Figure.{Figure}

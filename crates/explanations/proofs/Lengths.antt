@@ -9,17 +9,14 @@ use Rattle.readings.specs.Ranges.{meter, pitot, nozzle}
 use Rattle.grounds.specs.declared.Ground.{Ground}
 use Rattle.grounds.specs.declared.Ground.the-variants.{Silent, NoCertificate, Compared, Either, Exactly, SignedBelow}
 use Rattle.grounds.specs.Showing.{Condition, Judged, conditions, brokenOf, shown}
-use Rattle.dates.specs.declared.Day.{Day}
 use Rattle.dates.specs.declared.Sides.{Sides}
 use Rattle.dates.specs.declared.Days.{Days}
 use Rattle.dates.specs.Dates.{before, after}
-use Rattle.dates.proofs.Entries.{one-a-side}
-use Rattle.text.proofs.Lengths.{any-finding-short}
-use Rattle.reasons.proofs.Lengths.{condition-bytes-length, day-bytes-length, condition-text-short, day-text-short}
 use Rattle.explaining.specs.declared.Explanation.{Explanation}
-use Rattle.explanations.specs.declared.Form.{Form}
-use Rattle.explanations.specs.declared.Form.the-variants.{Bytes, Text}
-use Rattle.explanations.specs.Written.{headIn, conditionIn, conditionsIn, dayIn, sidesIn, daysIn, written}
+use Rattle.forms.specs.declared.Form.{Form}
+use Rattle.forms.specs.Forms.{headIn, conditionIn, dayIn}
+use Rattle.forms.proofs.Lengths.{head-short, condition-short, day-short}
+use Rattle.explanations.specs.Written.{conditionsIn, sidesIn, daysIn, written}
 
 -- no more conditions are shown than there are
 pub shown-few : (js : List Judged) → length (brokenOf js) ≤ length js
@@ -40,12 +37,7 @@ at-most-two (Either a b) = omega arith
 at-most-two (Exactly c) = omega arith
 at-most-two (SignedBelow left right) = omega arith
 
--- each is at most so long
-condition-short : (form : Form) (rule : ℕ) (round : Bool) (c : Condition) → length (conditionIn form rule round c) ≤ 257
-unfolding conditionIn
-condition-short Bytes rule round c = omega (arith, condition-bytes-length c)
-condition-short Text rule round c = condition-text-short rule round c
-
+-- conditions are at most so long
 conditions-short : (form : Form) (rule : ℕ) (round : Bool) (cs : List Condition) → length (conditionsIn form rule round cs) ≤ length cs * 257
 unfolding conditionsIn
 conditions-short form rule round [] = omega arith
@@ -53,11 +45,6 @@ conditions-short form rule round (c ∷ cs) =
     omega (arith, length-append (conditionIn form rule round c) (conditionsIn form rule round cs), condition-short form rule round c, conditions-short form rule round cs)
 
 -- and so are the certificate days
-day-short : (form : Form) (kind side : ℕ) (d : Day) → length (dayIn form kind side d) ≤ 49
-unfolding dayIn
-day-short Bytes kind side d = omega (arith, day-bytes-length kind side d, one-a-side d)
-day-short Text kind side d = day-text-short kind side d
-
 sides-short : (form : Form) (kind : ℕ) (s : Sides) → length (sidesIn form kind s) ≤ 98
 unfolding sidesIn
 sides-short form kind s =
@@ -70,11 +57,6 @@ days-short form d =
     let b = sidesIn form pitot (d .pitot) in
     let c = sidesIn form nozzle (d .nozzle) in
     omega (arith, length-append a b, length-append (a ++ b) c, sides-short form meter (d .meter), sides-short form pitot (d .pitot), sides-short form nozzle (d .nozzle))
-
-head-short : (form : Form) (e : Explanation) → length (headIn form e) ≤ 48
-unfolding headIn
-head-short Bytes e = omega arith
-head-short Text e = any-finding-short (e .finding)
 
 -- An explanation
 pub written-short : (form : Form) (e : Explanation) → length (written form e) ≤ 1024

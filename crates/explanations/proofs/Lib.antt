@@ -1,4 +1,3 @@
 -- The laws of an explanation written.
-pub mod Unused
 pub mod Shown
 pub mod Lengths

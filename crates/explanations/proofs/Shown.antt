@@ -11,8 +11,9 @@ use Rattle.grounds.specs.declared.Ground.{Ground}
 use Rattle.grounds.specs.declared.Ground.the-variants.{Silent, NoCertificate, Compared, Either, Exactly, SignedBelow}
 use Rattle.grounds.specs.Comparing.{holds, deciding}
 use Rattle.grounds.specs.Showing.{Condition, Judged, twoNumbers, aQuotient, twoSigned, _brokenIf_, conditions, brokenOf, shown}
-use Rattle.explanations.specs.declared.Form.{Form}
-use Rattle.explanations.specs.Written.{conditionIn, conditionsIn}
+use Rattle.forms.specs.declared.Form.{Form}
+use Rattle.forms.specs.Forms.{conditionIn}
+use Rattle.explanations.specs.Written.{conditionsIn}
 
 module _ (form : Form) (rule : ℕ) (round : Bool) where
   -- one that is not broken is not written

@@ -1,5 +1,5 @@
 // An explanation written, as bytes or as text: its head, its broken conditions, its certificate days.
-// Relies on the writers of conditions and certificate days, and on a finding's explanation.
+// Relies on how each of them is written in a form, and on a finding's explanation.
 
 use dates::AFTER;
 use dates::BEFORE;
@@ -7,94 +7,22 @@ use dates::Day;
 use dates::Days;
 use dates::Sides;
 use explaining::Explanation;
+use forms::Form;
+use forms::put_below;
+use forms::put_dated;
+use forms::put_exactly;
+use forms::put_head;
+use forms::put_numbers;
+use forms::put_undated;
 use grounds::Ground;
 use grounds::comparison::Comparison;
-use grounds::comparison::ExactComparison;
-use grounds::comparison::Way;
-use output::signed_bits;
 use readings::certificates::CertificateKind;
-use reasons::bytes;
-use reasons::texts;
-use text::runs::put_finding;
 ghost use mathlib.Core.List.{[], _∷_};
-ghost use Rattle.dates.specs.declared.Day.the-variants.{On, NoneSoDated};
 ghost use Rattle.grounds.specs.Comparing.{holds};
-ghost use Rattle.grounds.specs.Showing.{twoNumbers, aQuotient, twoSigned, brokenOf, _brokenIf_, shown};
+ghost use Rattle.grounds.specs.Showing.{twoNumbers, brokenOf, _brokenIf_, shown};
 ghost use Rattle.characters.specs.Writing.{Room, Wrote};
-ghost use Rattle.explanations.specs.Written.{headIn, conditionIn, conditionsIn, dayIn, sidesIn, daysIn, written};
-
-// How an explanation is handed over.
-pub enum Form {
-    Bytes,
-    Text,
-}
-
-// A condition of two whole numbers.
-fn put_numbers(
-    form: Form,
-    out: &mut [u8],
-    at: usize,
-    rule: u8,
-    round: bool,
-    which: u8,
-    c: Comparison,
-) -> usize
-    requires { ⌜ Room (now out) at (conditionIn form rule round (twoNumbers which c)) ⌝ }
-    ensures { λ r. ⌜ Wrote (now (out .entry)) at (conditionIn form rule round (twoNumbers which c)) (now (out .exit)) r ⌝ }
-{
-    let way = c.way;
-    match form {
-        Form::Bytes => bytes::put_condition(out, at, which, way, c.left, c.right, 0, 0),
-        Form::Text => texts::put_numbers(out, at, rule, round, which, c),
-    }
-}
-
-// A condition of a quotient with its remainder.
-fn put_exactly(
-    form: Form,
-    out: &mut [u8],
-    at: usize,
-    rule: u8,
-    round: bool,
-    c: ExactComparison,
-) -> usize
-    requires { ⌜ Room (now out) at (conditionIn form rule round (aQuotient c)) ⌝ }
-    ensures { λ r. ⌜ Wrote (now (out .entry)) at (conditionIn form rule round (aQuotient c)) (now (out .exit)) r ⌝ }
-{
-    let way = c.way;
-    match form {
-        Form::Bytes => bytes::put_condition(out, at, 1, way, c.quotient, c.limit, c.remainder, 0),
-        Form::Text => texts::put_exactly(out, at, rule, round, c),
-    }
-}
-
-// A condition of two signed numbers.
-fn put_below(
-    form: Form,
-    out: &mut [u8],
-    at: usize,
-    rule: u8,
-    round: bool,
-    left: i64,
-    right: i64,
-) -> usize
-    requires { ⌜ Room (now out) at (conditionIn form rule round (twoSigned left right)) ⌝ }
-    ensures { λ r. ⌜ Wrote (now (out .entry)) at (conditionIn form rule round (twoSigned left right)) (now (out .exit)) r ⌝ }
-{
-    match form {
-        Form::Bytes => bytes::put_condition(
-            out,
-            at,
-            1,
-            Way::Below,
-            signed_bits(left),
-            signed_bits(right),
-            0,
-            0,
-        ),
-        Form::Text => texts::put_below(out, at, rule, round, left, right),
-    }
-}
+ghost use Rattle.forms.specs.Forms.{dayIn};
+ghost use Rattle.explanations.specs.Written.{conditionsIn, sidesIn, daysIn, written};
 
 // A condition of two whole numbers, where it is broken.
 fn put_if_broken(
@@ -144,28 +72,6 @@ fn put_ground(form: Form, out: &mut [u8], at: usize, rule: u8, round: bool, grou
     }
 }
 
-// The day of the nearest certificate.
-fn put_dated(form: Form, out: &mut [u8], at: usize, kind: u8, side: u8, day: u16) -> usize
-    requires { ⌜ Room (now out) at (dayIn form kind side (On day)) ⌝ }
-    ensures { λ r. ⌜ Wrote (now (out .entry)) at (dayIn form kind side (On day)) (now (out .exit)) r ⌝ }
-{
-    match form {
-        Form::Bytes => bytes::put_day(out, at, kind, side, 1, day),
-        Form::Text => texts::put_dated(out, at, kind, side, day),
-    }
-}
-
-// That no certificate is so dated.
-fn put_undated(form: Form, out: &mut [u8], at: usize, kind: u8, side: u8) -> usize
-    requires { ⌜ Room (now out) at (dayIn form kind side NoneSoDated) ⌝ }
-    ensures { λ r. ⌜ Wrote (now (out .entry)) at (dayIn form kind side NoneSoDated) (now (out .exit)) r ⌝ }
-{
-    match form {
-        Form::Bytes => bytes::put_day(out, at, kind, side, 0, 0),
-        Form::Text => texts::put_undated(out, at, kind, side),
-    }
-}
-
 // A certificate day, where one is used.
 fn put_day(form: Form, out: &mut [u8], at: usize, kind: u8, side: u8, day: Day) -> usize
     requires { ⌜ Room (now out) at (dayIn form kind side day) ⌝ }
@@ -200,20 +106,6 @@ fn put_days(form: Form, out: &mut [u8], at: usize, days: Days) -> usize
     let a = put_sides(form, out, at, CertificateKind::METER, meter);
     let b = put_sides(form, out, a, CertificateKind::PITOT, pitot);
     put_sides(form, out, b, CertificateKind::NOZZLE, nozzle)
-}
-
-// How many conditions and how many certificate days follow, or the finding's line.
-fn put_head(form: Form, out: &mut [u8], at: usize, e: Explanation) -> usize
-    requires { ⌜ Room (now out) at (headIn form e) ⌝ }
-    ensures { λ r. ⌜ Wrote (now (out .entry)) at (headIn form e) (now (out .exit)) r ⌝ }
-{
-    let ground = e.ground;
-    let days = e.days;
-    let finding = e.finding;
-    match form {
-        Form::Bytes => bytes::put_pair(out, at, ground.shown(), days.entries()),
-        Form::Text => put_finding(out, at, finding),
-    }
 }
 
 // An explanation from the front of a buffer.

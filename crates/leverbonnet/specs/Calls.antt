@@ -9,7 +9,7 @@ use Rattle.printed.specs.Printing.{printingBy, printingAnswer, printingOut}
 use Rattle.layouts.specs.Outcomes.{LayoutOutcome, layoutAnswer, layoutOut}
 use Rattle.handing.specs.Handing.{answerOf, linesAfter, findingsAfter}
 use Rattle.runs.specs.Outcomes.{outcomeBy}
-use Rattle.explanations.specs.declared.Form.{Form}
+use Rattle.forms.specs.declared.Form.{Form}
 use Rattle.asking.specs.Outcomes.{explainingBy}
 
 -- leverbonnet_reduce, and the same by a figure: the answer, and every byte of both buffers

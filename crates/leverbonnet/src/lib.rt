@@ -8,11 +8,11 @@ ghost use lib.ListN.{length};
 ghost use Rattle.layouts.specs.Outcomes.{roundOutcome, rectangleOutcome};
 ghost use Rattle.counting.specs.Counting.{countAnswer, numberAnswer};
 ghost use Rattle.figures.specs.Figures.{noneSupplied, readFigure};
-ghost use Rattle.explanations.specs.declared.Form.the-variants.{Bytes, Text};
+ghost use Rattle.forms.specs.declared.Form.the-variants.{Bytes, Text};
 ghost use Rattle.leverbonnet.specs.Calls.{Reduces, PrintsText, ExplainsFinding, LaysOut};
 use asking::explain;
 use asking::explain_by_figure;
-use explanations::Form;
+use forms::Form;
 
 // Works the run of that number: 180 bytes of lines, 4 bytes a finding.
 #[no_mangle]

@@ -24,7 +24,7 @@ use Rattle.output.specs.Answers.{packed}
 use Rattle.printed.specs.Printing.{Printing, unprinted, printed, ifFits, unprintedIfBad, printingAnswer, printingOut}
 use Rattle.explaining.specs.declared.Explained.the-variants.{NoFinding, Because}
 use Rattle.explaining.specs.Explaining.{explanation, explained, explainedRun}
-use Rattle.explanations.specs.declared.Form.{Form}
+use Rattle.forms.specs.declared.Form.{Form}
 use Rattle.explanations.specs.Written.{written}
 use Rattle.asking.specs.Outcomes.{ofExplained, ofNamedRun, unlessJobTrouble, explaining, explainingBy}
 use Rattle.demands.specs.FigureFile.{Lent, supplied, figureIn, GoodLent}

@@ -39,8 +39,9 @@ use Rattle.explaining.specs.declared.Explanation.{Explanation}
 use Rattle.findings.specs.Listing.{partOf, besideOf, linesFor}
 use Rattle.findings.specs.Seeking.{indexOf, speaksOf, groundAt}
 use Rattle.explaining.specs.Explaining.{groundFor, explanation}
-use Rattle.explanations.specs.declared.Form.the-variants.{Bytes}
-use Rattle.explanations.specs.Written.{headIn, conditionIn, conditionsIn, dayIn, sidesIn, daysIn, written}
+use Rattle.forms.specs.declared.Form.the-variants.{Bytes}
+use Rattle.forms.specs.Forms.{headIn, conditionIn, dayIn}
+use Rattle.explanations.specs.Written.{conditionsIn, sidesIn, daysIn, written}
 use Rattle.explanations.proofs.Lengths.{shown-few, at-most-two}
 use Rattle.reviewing.specs.Numbers.{SeventyBytes}
 

@@ -18,7 +18,7 @@ use Rattle.output.specs.Answers.{packed}
 use Rattle.printed.specs.Printing.{unprintedIfBad, printingAnswer, printingOut}
 use Rattle.dates.specs.Dates.{daysOf}
 use Rattle.explaining.specs.Explaining.{explanation, explained, explainedRun}
-use Rattle.explanations.specs.declared.Form.{Form}
+use Rattle.forms.specs.declared.Form.{Form}
 use Rattle.asking.specs.Outcomes.{ofExplained, explaining}
 use Rattle.leverbonnet.specs.Calls.{ExplainsFinding}
 use Rattle.demands.specs.FigureFile.{Lent, supplied, figureIn}

@@ -9,7 +9,7 @@ use Rattle.records.specs.declared.Run.{Run}
 use Rattle.steps.specs.declared.Figure.{Figure}
 use Rattle.opening.specs.Opening.{runCountOf}
 use Rattle.explaining.specs.Explaining.{explanation}
-use Rattle.explanations.specs.declared.Form.the-variants.{Bytes}
+use Rattle.forms.specs.declared.Form.the-variants.{Bytes}
 use Rattle.explanations.specs.Written.{written}
 use Rattle.grounds.specs.Showing.{Condition, shown}
 use Rattle.demands.specs.FigureFile.{Lent, figureIn, GoodLent}

@@ -1,6 +1,6 @@
 -- Day by day.
 use Rattle.characters.proofs.Texts.{wrote-none}
-use Rattle.explanations.proofs.Unused.{unused}
+use Rattle.forms.proofs.Unused.{unused}
 use borrow.Author.Needs.{needs}
 use Rattle.explanations.proofs.put_day.Statement.{statement}
 use Rattle.explanations.proofs.put_day.Tie as tie

@@ -3,7 +3,8 @@ use mathlib.Core.List.{_++_}
 use Rattle.grounds.specs.Showing.{shown}
 use Rattle.characters.specs.Writing.{Room}
 use Rattle.characters.proofs.Texts.{room-front, room-behind, wrote-more}
-use Rattle.explanations.specs.Written.{headIn, conditionsIn, daysIn, written}
+use Rattle.forms.specs.Forms.{headIn}
+use Rattle.explanations.specs.Written.{conditionsIn, daysIn, written}
 use borrow.Author.Needs.{needs}
 use Rattle.explanations.proofs.put_explanation.Statement.{statement}
 use Rattle.explanations.proofs.put_explanation.Tie as tie

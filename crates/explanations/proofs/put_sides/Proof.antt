@@ -3,7 +3,8 @@ use mathlib.Core.List.{_++_}
 use Rattle.dates.specs.Dates.{before, after}
 use Rattle.characters.specs.Writing.{Room}
 use Rattle.characters.proofs.Texts.{room-front, room-behind, wrote-more}
-use Rattle.explanations.specs.Written.{dayIn, sidesIn}
+use Rattle.forms.specs.Forms.{dayIn}
+use Rattle.explanations.specs.Written.{sidesIn}
 use borrow.Author.Needs.{needs}
 use Rattle.explanations.proofs.put_sides.Statement.{statement}
 use Rattle.explanations.proofs.put_sides.Tie as tie

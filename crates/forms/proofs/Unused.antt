@@ -5,9 +5,9 @@ use mathlib.Core.List.{[]}
 use Rattle.dates.specs.declared.Day.the-variants.{Unused}
 use Rattle.reasons.specs.Bytes.{dayBytes}
 use Rattle.reasons.specs.Text.{dayText}
-use Rattle.explanations.specs.declared.Form.{Form}
-use Rattle.explanations.specs.declared.Form.the-variants.{Bytes, Text}
-use Rattle.explanations.specs.Written.{dayIn}
+use Rattle.forms.specs.declared.Form.{Form}
+use Rattle.forms.specs.declared.Form.the-variants.{Bytes, Text}
+use Rattle.forms.specs.Forms.{dayIn}
 
 pub unused : (form : Form) (kind side : ℕ) → dayIn form kind side Unused ≡ []
 unfolding dayIn dayBytes dayText

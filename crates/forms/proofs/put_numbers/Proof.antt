@@ -1,9 +1,9 @@
 -- By the form.
 use Rattle.reasons.specs.Bytes.{conditionBytes}
-use Rattle.explanations.specs.Written.{conditionIn}
+use Rattle.forms.specs.Forms.{conditionIn}
 use borrow.Author.Needs.{needs}
-use Rattle.explanations.proofs.put_exactly.Statement.{statement}
-use Rattle.explanations.proofs.put_exactly.Tie as tie
+use Rattle.forms.proofs.put_numbers.Statement.{statement}
+use Rattle.forms.proofs.put_numbers.Tie as tie
 
 enum-told : tie.Need-enum-told
 enum-told c = search needs
@@ -15,9 +15,9 @@ put-condition-requires c κs = rw (c .before .enum-told .given .1) at (c .before
 enum-told-2 : tie.Need-enum-told-2
 enum-told-2 c = search needs
 
-put-exactly-requires : tie.Need-put-exactly-requires
+put-numbers-requires : tie.Need-put-numbers-requires
 unfolding conditionIn conditionBytes
-put-exactly-requires c κs = rw (c .before .enum-told2 .given .1) at (c .before .before .before .before .pre)
+put-numbers-requires c κs = rw (c .before .enum-told2 .given .1) at (c .before .before .before .before .pre)
 
 same-length : tie.Need-same-length
 same-length c = search needs
@@ -31,16 +31,16 @@ same-length-2 c = search needs
 
 returns-2 : tie.Need-returns-2
 unfolding conditionIn conditionBytes
-returns-2 c = rw (c .before .before .before .before .enum-told2 .given .1) (c .before .before .put-exactly .ensures)
+returns-2 c = rw (c .before .before .before .before .enum-told2 .given .1) (c .before .before .put-numbers .ensures)
 
-pub put-exactly-spec : {M : Type 1} → statement M
-put-exactly-spec =
+pub put-numbers-spec : {M : Type 1} → statement M
+put-numbers-spec =
     tie.close
     (tie.spec
     enum-told
     put-condition-requires
     enum-told-2
-    put-exactly-requires
+    put-numbers-requires
     same-length
     returns
     same-length-2

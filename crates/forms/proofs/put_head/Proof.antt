@@ -1,8 +1,8 @@
 -- By the form.
-use Rattle.explanations.specs.Written.{headIn}
+use Rattle.forms.specs.Forms.{headIn}
 use borrow.Author.Needs.{needs}
-use Rattle.explanations.proofs.put_head.Statement.{statement}
-use Rattle.explanations.proofs.put_head.Tie as tie
+use Rattle.forms.proofs.put_head.Statement.{statement}
+use Rattle.forms.proofs.put_head.Tie as tie
 
 enum-told : tie.Need-enum-told
 enum-told c = search needs

@@ -1,9 +1,9 @@
 -- By the form.
 use Rattle.reasons.specs.Bytes.{dayBytes}
-use Rattle.explanations.specs.Written.{dayIn}
+use Rattle.forms.specs.Forms.{dayIn}
 use borrow.Author.Needs.{needs}
-use Rattle.explanations.proofs.put_undated.Statement.{statement}
-use Rattle.explanations.proofs.put_undated.Tie as tie
+use Rattle.forms.proofs.put_dated.Statement.{statement}
+use Rattle.forms.proofs.put_dated.Tie as tie
 
 enum-told : tie.Need-enum-told
 enum-told c = search needs
@@ -15,9 +15,9 @@ put-day-requires c κs = rw (c .before .enum-told .given .1) at (c .before .befo
 enum-told-2 : tie.Need-enum-told-2
 enum-told-2 c = search needs
 
-put-undated-requires : tie.Need-put-undated-requires
+put-dated-requires : tie.Need-put-dated-requires
 unfolding dayIn dayBytes
-put-undated-requires c κs = rw (c .before .enum-told2 .given .1) at (c .before .before .before .before .pre)
+put-dated-requires c κs = rw (c .before .enum-told2 .given .1) at (c .before .before .before .before .pre)
 
 same-length : tie.Need-same-length
 same-length c = search needs
@@ -31,16 +31,16 @@ same-length-2 c = search needs
 
 returns-2 : tie.Need-returns-2
 unfolding dayIn dayBytes
-returns-2 c = rw (c .before .before .before .before .enum-told2 .given .1) (c .before .before .put-undated .ensures)
+returns-2 c = rw (c .before .before .before .before .enum-told2 .given .1) (c .before .before .put-dated .ensures)
 
-pub put-undated-spec : {M : Type 1} → statement M
-put-undated-spec =
+pub put-dated-spec : {M : Type 1} → statement M
+put-dated-spec =
     tie.close
     (tie.spec
     enum-told
     put-day-requires
     enum-told-2
-    put-undated-requires
+    put-dated-requires
     same-length
     returns
     same-length-2

@@ -1,10 +1,10 @@
 -- By the form; signed numbers are read back from their bits.
 use mir.Facts.{toZ-ofZ}
 use Rattle.reasons.specs.Bytes.{conditionBytes}
-use Rattle.explanations.specs.Written.{conditionIn}
+use Rattle.forms.specs.Forms.{conditionIn}
 use borrow.Author.Needs.{needs}
-use Rattle.explanations.proofs.put_below.Statement.{statement}
-use Rattle.explanations.proofs.put_below.Tie as tie
+use Rattle.forms.proofs.put_below.Statement.{statement}
+use Rattle.forms.proofs.put_below.Tie as tie
 
 enum-told : tie.Need-enum-told
 enum-told c = search needs

@@ -1,0 +1,2 @@
+-- The parts of an explanation in a form.
+pub mod Forms
