@@ -1,0 +1,2 @@
+-- The laws of lists of numbers, which the layers above cite.
+pub mod Rest

@@ -1,0 +1,1 @@
+// Lists of numbers: only their definitions and laws, for every `match` on a number.
