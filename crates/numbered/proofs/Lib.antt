@@ -1,2 +1,2 @@
--- The laws of lists of numbers, which the layers above cite.
+-- The laws of lists and tables, which the layers above cite.
 pub mod Rest

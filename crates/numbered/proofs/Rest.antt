@@ -2,11 +2,11 @@
 use Prim.Native.Nat.{ℕ, zero, suc, _+_, _≤_}
 use mathlib.Core.Path.{_≡_, refl}
 use mathlib.Core.Bool.{Bool, true, false, true≢false, _||_}
-use mathlib.Core.List.{List, [], _∷_}
+use mathlib.Core.List.{List, [], _∷_, map}
 use native.Mathlib.Omega.{arith}
 use borrow.Author.Tests.{eqb-false, ne-eqb}
 use lib.Dec.{eqb}
-use Rattle.numbered.specs.Numbered.{oneOf}
+use Rattle.numbered.specs.Numbered.{oneOf, Numbered, rowOf}
 
 -- P, and n is none of the numbers listed, told in turn
 abbrev pub Besides : List ℕ → ℕ → Type 0 → Type 0
@@ -36,3 +36,19 @@ past-all least (suc k) n other from =
     let (not-least, others) = both-false (eqb n least) _ other in
     let past : least + 1 ≤ n = omega (arith, eqb-false n least not-least) in
     omega (arith, past-all (least + 1) k n others past)
+
+module _ {A : Type 0} where
+  -- the numbers of a table
+  abbrev pub numbersOf : List (Numbered A) → List ℕ
+  numbersOf rows = map (λ r. r .number) rows
+
+  module _ (none : A) where
+    other-number : (rows : List (Numbered A)) (n : ℕ) → oneOf (numbersOf rows) n ≡ false → rowOf none rows n ≡ none
+    other-number [] n other = refl
+    other-number (r ∷ rs) n other =
+        let (not-this, others) = both-false (eqb n (r .number)) _ other in
+        rw not-this (other-number rs n others)
+
+    -- and a table with those numbers has no row of it
+    pub no-row : (rows : List (Numbered A)) (n : ℕ) → Besides (numbersOf rows) n Unit → rowOf none rows n ≡ none
+    no-row rows n besides = other-number rows n (not-one-of (numbersOf rows) n Unit besides .0)

@@ -1,2 +1,2 @@
--- Lists of numbers.
+-- Lists of numbers, and tables with numbered rows.
 pub mod Numbered
