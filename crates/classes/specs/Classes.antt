@@ -5,7 +5,7 @@ use mathlib.Core.List.{List, [], _∷_}
 use lib.Dec.{eqb}
 use Rattle.readings.specs.declared.headers.Version.{Version}
 use Rattle.readings.specs.declared.headers.Version.the-variants.{One, Two}
-use Rattle.grids.specs.Grids.{oneOf}
+use Rattle.numbered.specs.Numbered.{oneOf}
 use Rattle.records.specs.declared.Counts.{Counts}
 
 -- of how many places a rule speaks: points, segments or weighings, and otherwise the whole run

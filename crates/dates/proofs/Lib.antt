@@ -1,3 +1,2 @@
 -- The laws of the days.
-pub mod Rest
 pub mod Entries

@@ -5,7 +5,7 @@ use mathlib.Core.List.{[], _∷_}
 use Rattle.readings.specs.declared.headers.Version.{Version}
 use Rattle.readings.specs.declared.headers.Version.the-variants.{One, Two}
 use Rattle.readings.specs.Ranges.{meter, pitot, nozzle}
-use Rattle.grids.specs.Grids.{oneOf}
+use Rattle.numbered.specs.Numbered.{oneOf}
 use Rattle.records.specs.declared.Certificate.{Certificate}
 use Rattle.records.specs.declared.RunHeader.{RunHeader}
 use Rattle.choosing.specs.declared.Lookup.{Lookup}

@@ -9,7 +9,7 @@ use native.Mathlib.Decide.{decLt}
 use native.Mathlib.Omega.{arith}
 use lib.Dec.{eqb}
 use lib.ListN.{length, getD}
-use Rattle.grids.specs.Grids.{oneOf}
+use Rattle.numbered.specs.Numbered.{oneOf}
 use Rattle.readings.specs.declared.headers.Version.{Version}
 use Rattle.records.specs.declared.Counts.{Counts}
 use Rattle.records.specs.declared.Run.{Run}

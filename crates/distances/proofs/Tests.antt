@@ -7,7 +7,7 @@ use mathlib.Core.Logic.{⊎-elim}
 use native.Mathlib.Nat.{eq-or-lt-of-le, le-of-suc-le-suc, not-suc-le-zero}
 use borrow.Author.Tests.{eqb-true}
 use lib.Dec.{eqb}
-use Rattle.grids.specs.Grids.{oneOf}
+use Rattle.numbered.specs.Numbered.{oneOf}
 use Rattle.readings.proofs.Ranges.{both-left, both-right}
 
 -- f passes at each number below n

@@ -11,7 +11,8 @@ use borrow.Author.Tests.{ne-eqb, le-leb, lt-leb}
 use lib.Dec.{eqb, leb, lit<}
 use lib.ListN.{length, getD, drop}
 use lib.Seq.{drop-cons}
-use Rattle.grids.specs.Grids.{gridNumbers, oneOf, gridPoints, nextOf, nextGrid}
+use Rattle.numbered.specs.Numbered.{oneOf}
+use Rattle.grids.specs.Grids.{gridNumbers, gridPoints, nextOf, nextGrid}
 
 -- the numbers before place i are all below n: the next is that of the others, or the last of these
 pub record Passed (gs : List ℕ) (n i : ℕ) : Type 0 where

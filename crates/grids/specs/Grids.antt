@@ -1,8 +1,9 @@
 -- The grids of a rectangular stack, in a run and in a layout.
 use Prim.Native.Nat.{ℕ, _*_}
-use mathlib.Core.Bool.{Bool, false, cond, _||_}
+use mathlib.Core.Bool.{Bool, cond}
 use mathlib.Core.List.{List, [], _∷_, map}
-use lib.Dec.{leb, eqb}
+use lib.Dec.{leb}
+use Rattle.numbered.specs.Numbered.{oneOf}
 
 infixl 50 _by_
 -- a grid's two counts of cells
@@ -21,11 +22,6 @@ grids = (3 by 3) ∷ (4 by 3) ∷ (4 by 4) ∷ (5 by 4) ∷ (5 by 5) ∷ (6 by 5
 -- the numbers of points that they have, one in each cell
 abbrev pub gridNumbers : List ℕ
 gridNumbers = map (λ g. g .larger * g .smaller) grids
-
--- one of the numbers listed
-abbrev pub oneOf : List ℕ → ℕ → Bool
-oneOf [] v = false
-oneOf (n ∷ ns) v = eqb v n || oneOf ns v
 
 -- points of a grid
 abbrev pub gridPoints : ℕ → Bool

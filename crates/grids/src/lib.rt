@@ -1,5 +1,5 @@
 // The grids of a rectangular stack: which numbers of points there are, in a run and in a layout.
-// Relies on nothing below it.
+// Relies on the lists of `numbered`.
 
 ghost use mathlib.Core.Path.{_≡_};
 ghost use Rattle.grids.specs.Grids.{gridPoints, nextGrid};

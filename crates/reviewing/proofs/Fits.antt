@@ -5,6 +5,7 @@ use mathlib.Core.Bool.{Bool, true, false, cond}
 use mathlib.Core.List.{List, [], _∷_}
 use borrow.Author.Tests.{ltb-true}
 use lib.Dec.{ltb, eqb, lit<}
+use Rattle.numbered.specs.Numbered.{Numbered, rowOf}
 use Rattle.readings.specs.declared.headers.Version.{Version}
 use Rattle.readings.specs.Ranges.{greatestPointCount, greatestTotalSeconds}
 use Rattle.readings.proofs.Ranges.{both-left, within-greatest}
@@ -18,13 +19,14 @@ use Rattle.factors.specs.Factor.{factorOf, coefficientOf, diametersOf}
 use Rattle.factors.specs.InRange.{ChosenOk}
 use Rattle.factors.proofs.Values.{chosen-in-range, factor-range, coefficient-range, diameters-range}
 use Rattle.steps.specs.declared.Figure.{Figure}
+use Rattle.grounds.specs.declared.Ground.{Ground}
 use Rattle.grounds.specs.declared.Ground.the-variants.{Silent}
 use Rattle.site.specs.Site.{minimumPoints}
 use Rattle.conditions.specs.declared.Part.{Part}
 use Rattle.conditions.specs.declared.Part.the-variants.{Whole, OnePoint, OneSegment, OneWeighing}
 use Rattle.classes.specs.Classes.{placesOf}
 use Rattle.rules.specs.declared.Beside.{Beside}
-use Rattle.rules.specs.Rules.{Rule, table, groundIn, groundOf}
+use Rattle.rules.specs.Rules.{table, groundOf}
 use Rattle.findings.specs.Listing.{partOf, besideOf, linesFor}
 use Rattle.findings.specs.Seeking.{indexOf, speaksOf, groundAt}
 use Rattle.explaining.specs.Explaining.{groundFor}
@@ -43,15 +45,15 @@ use Rattle.reviewing.proofs.FitsPoints.{mostPoints, least-few}
 -- Where what each row shows fits, so does what the rule of any number shows
 
 infixr 50 _then_
-data EachRow : List Rule → Type 0 where
+data EachRow : List (Numbered Ground) → Type 0 where
   none : EachRow []
-  _then_ : {rule : Rule} {rules : List Rule} → ShownFits (rule .ground) → EachRow rules → EachRow (rule ∷ rules)
+  _then_ : {rule : Numbered Ground} {rules : List (Numbered Ground)} → ShownFits (rule .row) → EachRow rules → EachRow (rule ∷ rules)
 
-any-rule : {rules : List Rule} (n : ℕ) → EachRow rules → ShownFits (groundIn rules n)
+any-rule : {rules : List (Numbered Ground)} (n : ℕ) → EachRow rules → ShownFits (rowOf Silent rules n)
 any-rule n none = silent-fits
 any-rule n (_then_ {rule} {rules} own rest) = go (eqb n (rule .number)) (any-rule n rest)
   where
-    go : (t : Bool) → ShownFits (groundIn rules n) → ShownFits (cond t (rule .ground) (groundIn rules n))
+    go : (t : Bool) → ShownFits (rowOf Silent rules n) → ShownFits (cond t (rule .row) (rowOf Silent rules n))
     go true later = own
     go false later = later
 

@@ -7,6 +7,7 @@ use native.Mathlib.Omega.{arith}
 use borrow.Author.Tests.{eqb-true}
 use lib.Dec.{eqb}
 use lib.ListN.{length, length-append}
+use Rattle.numbered.specs.Numbered.{Numbered, rowOf}
 use Rattle.readings.specs.declared.headers.Version.{Version}
 use Rattle.readings.specs.Ranges.{meter, pitot, nozzle}
 use Rattle.records.specs.declared.Certificate.{Certificate}
@@ -20,13 +21,14 @@ use Rattle.choosing.specs.declared.Lookup.{Lookup}
 use Rattle.choosing.specs.declared.Lookup.the-variants.{Found, Nothing}
 use Rattle.choosing.specs.Choosing.{chosen, chosenFor}
 use Rattle.grounds.specs.declared.comparison.Way.{Way}
+use Rattle.grounds.specs.declared.Ground.{Ground}
 use Rattle.grounds.specs.declared.Ground.the-variants.{Silent}
 use Rattle.grounds.specs.Showing.{Condition, conditions, brokenOf, shown}
 use Rattle.conditions.specs.declared.Part.{Part}
 use Rattle.conditions.specs.declared.Part.the-variants.{Whole, OnePoint, OneSegment, OneWeighing}
 use Rattle.conditions.specs.Conditions.{missing, moved, uneven, short, leaking, lineAgainst, ratioAgainst, unsteady}
 use Rattle.rules.specs.declared.Beside.{Beside}
-use Rattle.rules.specs.Rules.{Rule, table, groundIn, groundOf}
+use Rattle.rules.specs.Rules.{table, groundOf}
 use Rattle.steps.specs.declared.Figure.{Figure}
 use Rattle.dates.specs.declared.Use.{Use}
 use Rattle.dates.specs.declared.Use.the-variants.{Neither, Before, Both}
@@ -186,16 +188,16 @@ unsteady-one (OneSegment s) = omega arith
 unsteady-one (OneWeighing w) = omega arith
 
 -- of a table, each row of that number
-abbrev EachOne : List Rule → ℕ → Type 0
+abbrev EachOne : List (Numbered Ground) → ℕ → Type 0
 EachOne [] n = Unit {0}
-EachOne (rule ∷ rules) n = (eqb n (rule .number) ≡ true → length (conditions (rule .ground)) ≤ 1) × EachOne rules n
+EachOne (rule ∷ rules) n = (eqb n (rule .number) ≡ true → length (conditions (rule .row)) ≤ 1) × EachOne rules n
 
-one-in : (rules : List Rule) (n : ℕ) → EachOne rules n → length (conditions (groundIn rules n)) ≤ 1
+one-in : (rules : List (Numbered Ground)) (n : ℕ) → EachOne rules n → length (conditions (rowOf Silent rules n)) ≤ 1
 unfolding conditions
 one-in [] n all = omega arith
 one-in (rule ∷ rules) n (first, rest) = go (one-in rules n rest) (eqb n (rule .number)) refl
   where
-    go : length (conditions (groundIn rules n)) ≤ 1 → (b : Bool) → eqb n (rule .number) ≡ b → length (conditions (cond b (rule .ground) (groundIn rules n))) ≤ 1
+    go : length (conditions (rowOf Silent rules n)) ≤ 1 → (b : Bool) → eqb n (rule .number) ≡ b → length (conditions (cond b (rule .row) (rowOf Silent rules n))) ≤ 1
     go later true e = first e
     go later false e = later
 
@@ -266,14 +268,14 @@ module _ (v : Version) (fig : Figure) (f : ℕ → Certificate) (n : ℕ) (r : R
   unfolding shown groundFor groundAt groundOf conditions
   one-shown rule not-eight not-nine = go (speaksOf (r .header .counts) rule place)
     where
-      rows : List Rule
+      rows : List (Numbered Ground)
       rows = table (partOf r rule (indexOf place)) (besideOf fig r (chosenFor f n (r .header)) (linesFor v r (chosenFor f n (r .header))))
 
-      few : length (conditions (groundIn rows rule)) ≤ 1
+      few : length (conditions (rowOf Silent rows rule)) ≤ 1
       few = one-in rows rule (rows-one (partOf r rule (indexOf place)) (besideOf fig r (chosenFor f n (r .header)) (linesFor v r (chosenFor f n (r .header)))) rule not-eight not-nine)
 
-      go : (b : Bool) → length (brokenOf (conditions (cond b (groundIn rows rule) Silent))) ≤ 1
-      go true = omega (arith, shown-few (conditions (groundIn rows rule)), few)
+      go : (b : Bool) → length (brokenOf (conditions (cond b (rowOf Silent rows rule) Silent))) ≤ 1
+      go true = omega (arith, shown-few (conditions (rowOf Silent rows rule)), few)
       go false = omega (arith, shown-few (conditions Silent))
 
   two-shown : (rule : ℕ) → length (shown (groundFor v fig r (chosenFor f n (r .header)) rule place)) ≤ 2

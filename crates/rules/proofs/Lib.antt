@@ -1,3 +1,2 @@
 -- The laws of the table, which the layers above cite.
-pub mod Table
 pub mod Starred

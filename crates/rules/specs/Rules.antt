@@ -1,8 +1,7 @@
 -- The table of the rules of docs/RULES.md, The findings: what each goes by.
 use Prim.Native.Nat.{ℕ, _≤_}
-use mathlib.Core.Bool.{cond}
 use mathlib.Core.List.{List, [], _∷_}
-use lib.Dec.{eqb}
+use Rattle.numbered.specs.Numbered.{Numbered, rowOf}
 use Rattle.readings.specs.Ranges.{greatestAboveFirst, greatestTotalSeconds}
 use Rattle.values.specs.declared.Value.the-variants.{Known}
 use Rattle.grounds.specs.declared.comparison.Way.the-variants.{Below, Above, Same}
@@ -13,17 +12,13 @@ use Rattle.site.specs.Site.{narrow, disturbed, wrongPoints}
 use Rattle.conditions.specs.Conditions.{missing, moved, uneven, short, leaking, lineAgainst, ratioAgainst, leastIsokinetic, greatestIsokinetic, unsteady, lacking, negative}
 use Rattle.rules.specs.declared.Beside.{Beside}
 
--- a rule: its number, and what it goes by
-pub record Rule : Type 0 where
-  pub number : ℕ
-  pub ground : Ground
-
 infixl 50 _goesBy_
-abbrev pub _goesBy_ : ℕ → Ground → Rule
-number goesBy ground = record { number = number; ground = ground }
+-- a rule: its number, and what it goes by
+abbrev pub _goesBy_ : ℕ → Ground → Numbered Ground
+number goesBy ground = record { number = number; row = ground }
 
 -- The table: what each rule goes by, of its part and of what stands beside it; the number 13 is given to none
-unfoldable pub table : Part → Beside → List Rule
+unfoldable pub table : Part → Beside → List (Numbered Ground)
 table part b =
     (1 goesBy missing (b .chosen .before))
     ∷ (2 goesBy missing (b .chosen .pitot))
@@ -50,14 +45,9 @@ table part b =
 abbrev pub lastRule : ℕ
 lastRule = 20
 
--- of a table, what the rule of a number goes by; a number without a rule goes by nothing
-abbrev pub groundIn : List Rule → ℕ → Ground
-groundIn [] n = Silent
-groundIn (rule ∷ rules) n = cond (eqb n (rule .number)) (rule .ground) (groundIn rules n)
-
--- what a rule goes by
+-- what a rule goes by; a number without a rule goes by nothing
 unfoldable pub groundOf : Part → Beside → ℕ → Ground
-groundOf part b rule = groundIn (table part b) rule
+groundOf part b rule = rowOf Silent (table part b) rule
 
 -- beside lines that are small enough to compare
 pub record Judgeable (b : Beside) : Type 0 where

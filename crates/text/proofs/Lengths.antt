@@ -8,7 +8,7 @@ use lib.Dec.{eqb}
 use lib.ListN.{length, getD, replicate, length-append, List·getD-append}
 use Rattle.readings.specs.declared.headers.Version.{Version}
 use Rattle.readings.specs.Ranges.{leastRunNumber, greatestRunNumber, leastPointCount, greatestPointCount, leastSegmentCount, greatestSegmentCount, greatestWeighingCount}
-use Rattle.grids.specs.Grids.{oneOf}
+use Rattle.numbered.specs.Numbered.{oneOf}
 use Rattle.readings.proofs.Ranges.{within-greatest}
 use Rattle.arrays.specs.Arrays.{filledTo}
 use Rattle.records.specs.declared.Run.{Run}

@@ -5,19 +5,19 @@ use mathlib.Core.List.{List, [], _∷_}
 use native.Mathlib.Omega.{arith}
 use lib.Dec.{eqb}
 use lib.ListN.{length}
+use Rattle.numbered.specs.Numbered.{Numbered, rowOf}
 use Rattle.characters.specs.Words.{spelled}
 use Rattle.characters.proofs.Texts.{either-short}
-use Rattle.wording.specs.Wording.{Said, sayings, wordsIn, wordsOf}
+use Rattle.wording.specs.Wording.{sayings, wordsOf}
 
 -- every row of a table has at most 128 characters
-abbrev AllShort : List Said → Type 0
+abbrev AllShort : List (Numbered (List ℕ)) → Type 0
 AllShort [] = Unit {0}
-AllShort (said ∷ more) = (length (said .words) ≤ 128) × AllShort more
+AllShort (said ∷ more) = (length (said .row) ≤ 128) × AllShort more
 
-short-in : (rows : List Said) → AllShort rows → (rule : ℕ) → length (wordsIn rows rule) ≤ 128
-unfolding wordsIn
+short-in : (rows : List (Numbered (List ℕ))) → AllShort rows → (rule : ℕ) → length (rowOf [] rows rule) ≤ 128
 short-in [] all rule = omega arith
-short-in (said ∷ more) (short, all) rule = either-short (eqb rule (said .rule)) _ _ 128 short (short-in more all rule)
+short-in (said ∷ more) (short, all) rule = either-short (eqb rule (said .number)) _ _ 128 short (short-in more all rule)
 
 all-short : (which : ℕ) (round : Bool) → AllShort (sayings which round)
 unfolding sayings spelled

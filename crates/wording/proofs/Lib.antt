@@ -1,3 +1,2 @@
 -- The law of the table.
-pub mod Silent
 pub mod Lengths

@@ -3,19 +3,16 @@ use Prim.Native.Nat.{ℕ}
 use mathlib.Core.Bool.{Bool, cond}
 use mathlib.Core.List.{List, [], _∷_}
 use lib.Dec.{eqb}
+use Rattle.numbered.specs.Numbered.{Numbered, rowOf}
 use Rattle.characters.specs.Words.{spelled}
 
--- a rule's number, and words
-pub record Said : Type 0 where
-  pub rule : ℕ
-  pub words : List ℕ
-
 infixl 50 _says_
-abbrev pub _says_ : ℕ → List ℕ → Said
-rule says words = record { rule = rule; words = words }
+-- a rule's number, and words
+abbrev pub _says_ : ℕ → List ℕ → Numbered (List ℕ)
+rule says words = record { number = rule; row = words }
 
 -- The table: the words of the first condition or of the second, in a round stack or in a rectangular one
-unfoldable pub sayings : ℕ → Bool → List Said
+unfoldable pub sayings : ℕ → Bool → List (Numbered (List ℕ))
 sayings which round =
     (5 says spelled "20 x the difference of the meter's factors; its factor before the run (factors in 0.0001)")
     ∷ (6 says spelled "the nozzle's highest less its lowest diameter; the most that they may differ (0.001 in)")
@@ -48,11 +45,6 @@ sayings which round =
     ∷ (20 says spelled "line 19, the catch; the least catch (0.1 mg)")
     ∷ []
 
--- of a table, the words of a rule; a rule that compares nothing has none
-unfoldable pub wordsIn : List Said → ℕ → List ℕ
-wordsIn [] rule = []
-wordsIn (said ∷ more) rule = cond (eqb rule (said .rule)) (said .words) (wordsIn more rule)
-
--- What the left number and the right one are
+-- What the left number and the right one are; a rule that compares nothing has no words
 unfoldable pub wordsOf : ℕ → ℕ → Bool → List ℕ
-wordsOf rule which round = wordsIn (sayings which round) rule
+wordsOf rule which round = rowOf [] (sayings which round) rule

@@ -22,6 +22,52 @@ fn put_by_shape(
     put_word(out, at, in_rectangular)
 }
 
+// Rule 8's: the distance to the next disturbance, or from the last one.
+fn put_distance(out: &mut [u8], at: usize, which: u8, round: bool) -> usize
+    requires { ⌜ Room (now out) at (wordsOf 8 which round) ⌝ }
+    ensures { λ r. ⌜ Wrote (now (out .entry)) at (wordsOf 8 which round) (now (out .exit)) r ⌝ }
+{
+    if which == 1 {
+        return put_by_shape(
+            out,
+            at,
+            round,
+            b"2 x the distance to the next disturbance; the diameter of the stack (0.1 in)",
+            b"the distance to the next disturbance x the sum of both sides; first side x second side (distance and sides in 0.1 in)",
+        );
+    }
+    put_by_shape(
+        out,
+        at,
+        round,
+        b"the distance from the last disturbance; 2 x the diameter of the stack (0.1 in)",
+        b"the distance from the last disturbance x the sum of both sides; 4 x first side x second side (distance and sides in 0.1 in)",
+    )
+}
+
+// Rule 9's: the least number of points, or the next one allowed.
+fn put_points(out: &mut [u8], at: usize, which: u8, round: bool) -> usize
+    requires { ⌜ Room (now out) at (wordsOf 9 which round) ⌝ }
+    ensures { λ r. ⌜ Wrote (now (out .entry)) at (wordsOf 9 which round) (now (out .exit)) r ⌝ }
+{
+    if which == 1 {
+        return put_by_shape(
+            out,
+            at,
+            round,
+            b"points; the least number of points in a round stack with these disturbances",
+            b"points; the least number of points in a rectangular stack with these disturbances",
+        );
+    }
+    put_by_shape(
+        out,
+        at,
+        round,
+        b"points; the next number of points allowed in a round stack, a multiple of 4",
+        b"points; the next number of points allowed in a rectangular stack, or 49, the highest",
+    )
+}
+
 // What the left number and the right one are, of a rule's first condition or its second, in a round stack or a rectangular one.
 pub fn put_words(out: &mut [u8], at: usize, rule: u8, which: u8, round: bool) -> usize
     requires { ⌜ Room (now out) at (wordsOf rule which round) ⌝ }
@@ -45,42 +91,8 @@ pub fn put_words(out: &mut [u8], at: usize, rule: u8, which: u8, round: bool) ->
             b"the diameter of the stack; the least diameter (0.1 in)",
             b"2 x first side x second side; 120 x the sum of both sides (sides in 0.1 in)",
         ),
-        8 => {
-            if which == 1 {
-                return put_by_shape(
-                    out,
-                    at,
-                    round,
-                    b"2 x the distance to the next disturbance; the diameter of the stack (0.1 in)",
-                    b"the distance to the next disturbance x the sum of both sides; first side x second side (distance and sides in 0.1 in)",
-                );
-            }
-            put_by_shape(
-                out,
-                at,
-                round,
-                b"the distance from the last disturbance; 2 x the diameter of the stack (0.1 in)",
-                b"the distance from the last disturbance x the sum of both sides; 4 x first side x second side (distance and sides in 0.1 in)",
-            )
-        }
-        9 => {
-            if which == 1 {
-                return put_by_shape(
-                    out,
-                    at,
-                    round,
-                    b"points; the least number of points in a round stack with these disturbances",
-                    b"points; the least number of points in a rectangular stack with these disturbances",
-                );
-            }
-            put_by_shape(
-                out,
-                at,
-                round,
-                b"points; the next number of points allowed in a round stack, a multiple of 4",
-                b"points; the next number of points allowed in a rectangular stack, or 49, the highest",
-            )
-        }
+        8 => put_distance(out, at, which, round),
+        9 => put_points(out, at, which, round),
         10 => put_word(out, at, b"time at the point; the least time (seconds)"),
         11 => put_word(
             out,

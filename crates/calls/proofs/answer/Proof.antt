@@ -1,8 +1,9 @@
 -- `answer` is what the public call of the header's number promises: the call takes the header's numbers, and a buffer that it is not lent stays as it was.
 use mathlib.Core.Path.{refl}
+use native.Mathlib.Omega.{arith}
 use borrow.Author.Needs.{needs}
+use Rattle.numbered.proofs.Rest.{not-one-of, upFrom, past-all}
 use Rattle.calls.specs.Requests.{byReduce, byRunCount, byRunNumber, byRoundLayout, byRectLayout, bySheetText, byReduceByFigure, bySheetTextByFigure, byExplain, byExplainByFigure, byExplainText, byExplainTextByFigure, byNone}
-use Rattle.calls.proofs.NoCall.{no-call}
 use Rattle.calls.proofs.answer.Statement.{statement}
 use Rattle.calls.proofs.answer.Tie as tie
 
@@ -178,7 +179,9 @@ returns-12 c =
     byExplainTextByFigure (chosen .match .keys12) (rw (first .u16-at .ensures, second .u16-at2 .ensures, third .u16-at3 .ensures) at (called .leverbonnet-explain-text-by-figure .ensures)) refl
 
 returns-13 : tie.Need-returns-13
-returns-13 c = byNone (no-call 12 _ (c .match .rest)) refl refl refl
+returns-13 c =
+    let other = not-one-of (upFrom 1 12) _ _ (c .match .rest) .0 in
+    byNone (λ least most. omega (arith, past-all 1 12 _ other least)) refl refl refl
 
 pub answer-spec : {M : Type 1} → statement M
 answer-spec =

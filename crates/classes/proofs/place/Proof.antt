@@ -1,6 +1,7 @@
 -- `place` is `placeAt`, rule by rule.
-use borrow.Author.Tests.{ne-eqb}
+use mathlib.Core.List.{[], _∷_}
 use borrow.Author.Needs.{needs}
+use Rattle.numbered.proofs.Rest.{not-one-of}
 use Rattle.classes.specs.Classes.{placeAt}
 use Rattle.classes.proofs.place.Statement.{statement}
 use Rattle.classes.proofs.place.Tie as tie
@@ -28,8 +29,7 @@ returns-3 c = rw (c .match .keys3)
 
 returns-4 : tie.Need-returns-4
 unfolding placeAt
-returns-4 c =
-    rw (ne-eqb _ _ (c .match .rest .0 .0 .1), ne-eqb _ _ (c .match .rest .0 .1), ne-eqb _ _ (c .match .rest .1))
+returns-4 c = rw (not-one-of (10 ∷ 11 ∷ 17 ∷ []) _ _ (c .match .rest) .0)
 
 pub place-spec : {M : Type 1} → statement M
 place-spec =

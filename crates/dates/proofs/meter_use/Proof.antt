@@ -1,7 +1,7 @@
 -- The meter's column of the table.
 use mathlib.Core.List.{[], _∷_}
+use Rattle.numbered.proofs.Rest.{not-one-of}
 use Rattle.dates.specs.Dates.{meterUse}
-use Rattle.dates.proofs.Rest.{Besides, not-one-of}
 use borrow.Author.Needs.{needs}
 use Rattle.dates.proofs.meter_use.Statement.{statement}
 use Rattle.dates.proofs.meter_use.Tie as tie
@@ -42,9 +42,8 @@ returns-6 c = rw (c .before .match .keys6) (c .worked-use3 .ensures)
 returns-7 : tie.Need-returns-7
 unfolding meterUse
 returns-7 c =
-    let rule = c .before .args .rule in
-    let (not-later, rest) = not-one-of (14 ∷ 15 ∷ 16 ∷ []) rule (Besides (1 ∷ 4 ∷ 5 ∷ []) rule Unit) (c .match .rest) in
-    rw (not-one-of (1 ∷ 4 ∷ 5 ∷ []) rule Unit rest .0, not-later)
+    let (not-later, rest) = not-one-of (14 ∷ 15 ∷ 16 ∷ []) _ _ (c .match .rest) in
+    rw (not-one-of (1 ∷ 4 ∷ 5 ∷ []) _ _ rest .0, not-later)
 
 pub meter-use-spec : {M : Type 1} → statement M
 meter-use-spec =

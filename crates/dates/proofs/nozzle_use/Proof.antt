@@ -1,7 +1,7 @@
 -- The nozzle's column of the table.
 use mathlib.Core.List.{[], _∷_}
+use Rattle.numbered.proofs.Rest.{not-one-of}
 use Rattle.dates.specs.Dates.{nozzleUse}
-use Rattle.dates.proofs.Rest.{Besides, not-one-of}
 use Rattle.dates.proofs.nozzle_use.Statement.{statement}
 use Rattle.dates.proofs.nozzle_use.Tie as tie
 
@@ -24,9 +24,8 @@ returns-4 c = rw (c .match .keys4)
 returns-5 : tie.Need-returns-5
 unfolding nozzleUse
 returns-5 c =
-    let rule = c .before .args .rule in
-    let (not-later, rest) = not-one-of (6 ∷ 15 ∷ 16 ∷ []) rule (Besides (3 ∷ []) rule Unit) (c .match .rest) in
-    rw (not-one-of (3 ∷ []) rule Unit rest .0, not-later)
+    let (not-later, rest) = not-one-of (6 ∷ 15 ∷ 16 ∷ []) _ _ (c .match .rest) in
+    rw (not-one-of (3 ∷ []) _ _ rest .0, not-later)
 
 pub nozzle-use-spec : {M : Type 1} → statement M
 nozzle-use-spec = tie.close (tie.spec returns returns-2 returns-3 returns-4 returns-5)

@@ -1,12 +1,12 @@
 -- `ground_of` is `groundOf`, row by row; line 19 is read back from its bits.
-use mathlib.Core.Path.{_∙_, ap}
+use mathlib.Core.Path.{sym, _∙_, ap}
 use mir.Facts.{toZ-ofZ}
 use mir.Syntax.{w64}
 use mir.Val.{SFits}
 use borrow.Author.Needs.{needs}
+use Rattle.numbered.proofs.Rest.{no-row}
 use Rattle.conditions.specs.Conditions.{negative}
 use Rattle.rules.specs.Rules.{table, groundOf}
-use Rattle.rules.proofs.Table.{no-rule}
 use Rattle.rules.proofs.ground_of.Statement.{statement}
 use Rattle.rules.proofs.ground_of.Tie as tie
 
@@ -150,7 +150,7 @@ returns-20 : tie.Need-returns-20
 unfolding groundOf table
 returns-20 c =
     let args = c .before .before .before .before .before .before .args in
-    no-rule (table (args .part) (args .beside)) (args .rule) Unit (c .match .rest) .0
+    sym (no-row _ (table (args .part) (args .beside)) (args .rule) (c .match .rest))
 
 pub ground-of-spec : {M : Type 1} → statement M
 ground-of-spec =

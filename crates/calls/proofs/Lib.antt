@@ -1,2 +1,0 @@
--- The law of the calls' numbers.
-pub mod NoCall

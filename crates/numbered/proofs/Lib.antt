@@ -1,0 +1,2 @@
+-- The laws of lists and tables, which the layers above cite.
+pub mod Rest

@@ -1,0 +1,54 @@
+-- What the last arm of a `match` on a number knows: that it is none of those of the arms before.
+use Prim.Native.Nat.{ℕ, zero, suc, _+_, _≤_}
+use mathlib.Core.Path.{_≡_, refl}
+use mathlib.Core.Bool.{Bool, true, false, true≢false, _||_}
+use mathlib.Core.List.{List, [], _∷_, map}
+use native.Mathlib.Omega.{arith}
+use borrow.Author.Tests.{eqb-false, ne-eqb}
+use lib.Dec.{eqb}
+use Rattle.numbered.specs.Numbered.{oneOf, Numbered, rowOf}
+
+-- P, and n is none of the numbers listed, told in turn
+abbrev pub Besides : List ℕ → ℕ → Type 0 → Type 0
+Besides [] n P = P
+Besides (m ∷ ms) n P = Besides ms n (P × (n ≡ m → ⊥))
+
+-- so it is not one of them
+pub not-one-of : (ns : List ℕ) (n : ℕ) (P : Type 0) → Besides ns n P → (oneOf ns n ≡ false) × P
+not-one-of [] n P p = (refl, p)
+not-one-of (m ∷ ms) n P p =
+    let (rest, (before, not-this)) = not-one-of ms n (P × (n ≡ m → ⊥)) p in
+    (rw (ne-eqb n m not-this) rest, before)
+
+both-false : (a b : Bool) → (a || b) ≡ false → (a ≡ false) × (b ≡ false)
+both-false true b e = absurd (true≢false e)
+both-false false b e = (refl, e)
+
+-- k numbers, upward from the least
+abbrev pub upFrom : ℕ → ℕ → List ℕ
+upFrom least zero = []
+upFrom least (suc k) = least ∷ upFrom (least + 1) k
+
+-- a number that is not one of them, nor below the least, is past them all
+pub past-all : (least k n : ℕ) → oneOf (upFrom least k) n ≡ false → least ≤ n → least + k ≤ n
+past-all least zero n other from = omega arith
+past-all least (suc k) n other from =
+    let (not-least, others) = both-false (eqb n least) _ other in
+    let past : least + 1 ≤ n = omega (arith, eqb-false n least not-least) in
+    omega (arith, past-all (least + 1) k n others past)
+
+module _ {A : Type 0} where
+  -- the numbers of a table
+  abbrev pub numbersOf : List (Numbered A) → List ℕ
+  numbersOf rows = map (λ r. r .number) rows
+
+  module _ (none : A) where
+    other-number : (rows : List (Numbered A)) (n : ℕ) → oneOf (numbersOf rows) n ≡ false → rowOf none rows n ≡ none
+    other-number [] n other = refl
+    other-number (r ∷ rs) n other =
+        let (not-this, others) = both-false (eqb n (r .number)) _ other in
+        rw not-this (other-number rs n others)
+
+    -- and a table with those numbers has no row of it
+    pub no-row : (rows : List (Numbered A)) (n : ℕ) → Besides (numbersOf rows) n Unit → rowOf none rows n ≡ none
+    no-row rows n besides = other-number rows n (not-one-of (numbersOf rows) n Unit besides .0)

@@ -1,0 +1,2 @@
+-- Lists of numbers, and tables with numbered rows.
+pub mod Numbered
