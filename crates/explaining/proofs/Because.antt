@@ -4,9 +4,8 @@ use mathlib.Core.Path.{_≡_, refl, sym, _∙_, ap}
 use mathlib.Core.Bool.{Bool, true, false, cond}
 use mathlib.Core.List.{List}
 use native.Mathlib.Omega.{arith}
-use borrow.Author.Tests.{ne-eqb}
-use lib.Dec.{eqb}
 use lib.ListN.{drop, getD}
+use Rattle.numbered.proofs.Rest.{above-all, numbersOf, other-number}
 use Rattle.readings.specs.declared.headers.Version.{Version}
 use Rattle.records.specs.declared.RunHeader.{RunHeader}
 use Rattle.grounds.specs.declared.Ground.{Ground}
@@ -44,10 +43,8 @@ no-rule-zero part b = refl
 -- no rule has a number above the last
 pub beyond-table : (part : Part) (b : Beside) (rule : ℕ) → lastRule < rule → groundOf part b rule ≡ Silent
 unfolding groundOf table
-beyond-table part b rule h = rw (differs 1 (omega (arith, h)), differs 2 (omega (arith, h)), differs 3 (omega (arith, h)), differs 4 (omega (arith, h)), differs 5 (omega (arith, h)), differs 6 (omega (arith, h)), differs 7 (omega (arith, h)), differs 8 (omega (arith, h)), differs 9 (omega (arith, h)), differs 10 (omega (arith, h)), differs 11 (omega (arith, h)), differs 12 (omega (arith, h)), differs 14 (omega (arith, h)), differs 15 (omega (arith, h)), differs 16 (omega (arith, h)), differs 17 (omega (arith, h)), differs 18 (omega (arith, h)), differs 19 (omega (arith, h)), differs 20 (omega (arith, h)))
-  where
-    differs : (k : ℕ) → k < rule → eqb rule k ≡ false
-    differs k below = ne-eqb rule k (λ e. omega (arith, below, e))
+beyond-table part b rule h =
+    other-number Silent (table part b) rule (above-all lastRule (numbersOf (table part b)) rule refl h)
 
 -- of two grounds that are both nothing, either is
 either-silent : (test : Bool) (g : Ground) → g ≡ Silent → cond test g Silent ≡ Silent

@@ -1,11 +1,11 @@
 -- What the last arm of a `match` on a number knows: that it is none of those of the arms before.
-use Prim.Native.Nat.{ℕ, zero, suc, _+_, _≤_}
-use mathlib.Core.Path.{_≡_, refl}
-use mathlib.Core.Bool.{Bool, true, false, true≢false, _||_}
+use Prim.Native.Nat.{ℕ, zero, suc, _+_, _≤_, _<_}
+use mathlib.Core.Path.{_≡_, refl, sym}
+use mathlib.Core.Bool.{Bool, true, false, true≢false, _&&_, _||_}
 use mathlib.Core.List.{List, [], _∷_, map}
 use native.Mathlib.Omega.{arith}
-use borrow.Author.Tests.{eqb-false, ne-eqb}
-use lib.Dec.{eqb}
+use borrow.Author.Tests.{eqb-false, ne-eqb, ltb-true}
+use lib.Dec.{eqb, ltb}
 use Rattle.numbered.specs.Numbered.{oneOf, Numbered, rowOf}
 
 -- P, and n is none of the numbers listed, told in turn
@@ -37,13 +37,30 @@ past-all least (suc k) n other from =
     let past : least + 1 ≤ n = omega (arith, eqb-false n least not-least) in
     omega (arith, past-all (least + 1) k n others past)
 
+-- none of the numbers listed is above the most
+abbrev pub allUpTo : ℕ → List ℕ → Bool
+allUpTo most [] = true
+allUpTo most (m ∷ ms) = ltb m (most + 1) && allUpTo most ms
+
+both-true : (a b : Bool) → (a && b) ≡ true → (a ≡ true) × (b ≡ true)
+both-true true b e = (refl, e)
+both-true false b e = absurd (true≢false (sym e))
+
+-- so a number above it is none of them
+pub above-all : (most : ℕ) (ns : List ℕ) (n : ℕ) → allUpTo most ns ≡ true → most < n → oneOf ns n ≡ false
+above-all most [] n all above = refl
+above-all most (m ∷ ms) n all above =
+    let (this, others) = both-true (ltb m (most + 1)) _ all in
+    let few : m < most + 1 = ltb-true m (most + 1) this in
+    rw (ne-eqb n m (λ e. omega (arith, few, above, e))) (above-all most ms n others above)
+
 module _ {A : Type 0} where
   -- the numbers of a table
   abbrev pub numbersOf : List (Numbered A) → List ℕ
   numbersOf rows = map (λ r. r .number) rows
 
   module _ (none : A) where
-    other-number : (rows : List (Numbered A)) (n : ℕ) → oneOf (numbersOf rows) n ≡ false → rowOf none rows n ≡ none
+    pub other-number : (rows : List (Numbered A)) (n : ℕ) → oneOf (numbersOf rows) n ≡ false → rowOf none rows n ≡ none
     other-number [] n other = refl
     other-number (r ∷ rs) n other =
         let (not-this, others) = both-false (eqb n (r .number)) _ other in
