@@ -45,7 +45,7 @@ pub enum Sought {
     Why(u8, u16),
 }
 
-// A place that no finding has.
+// The place that is sought where all findings are: none has it.
 const NOWHERE: u16 = 65535;
 
 impl Sought {
@@ -69,7 +69,7 @@ impl Sought {
         }
     }
 
-    // The place where the search ends, if the rule is broken there.
+    // The place at which the walk ends, if the rule is broken there.
     fn place(self) -> u16
         ensures { λ r. ⌜ r ≡ placeOf self ⌝ }
     {
@@ -80,14 +80,14 @@ impl Sought {
     }
 }
 
-// What comes of it: findings, and what the rule of the one sought goes by.
+// What a walk over the rules comes to: the findings met, and what the rule of the one sought goes by.
 pub struct Walked {
     pub findings: Findings,
     pub ground: Ground,
 }
 
 // What the rules may see of a run beside the part that each looks at.
-pub fn beside_of(figure: Figure, run: Run, chosen: Chosen, lines: Lines) -> Beside
+fn beside_of(figure: Figure, run: Run, chosen: Chosen, lines: Lines) -> Beside
     requires { ⌜ run .header .counts .weighings ≤ greatestWeighingCount ⌝ }
     ensures { λ r. ⌜ r ≡ besideOf figure run chosen lines ⌝ }
 {
@@ -117,7 +117,8 @@ fn finding_at(v: Version, rule: u8, i: u8) -> Finding
     }
 }
 
-// What is sought of a run of a job of that version, judged by that figure: rule by rule, and of each place by place.
+// The walk over the rules and, of each, its places, for what is sought of a run of a job of that version, judged by that figure. It ends
+// with the last rule, or at the finding that is sought.
 pub fn find(
     v: Version,
     figure: Figure,
