@@ -27,7 +27,7 @@ use Rattle.findings.specs.declared.Sought.{Sought}
 use Rattle.findings.specs.declared.Sought.the-variants.{All, Why}
 use Rattle.findings.specs.declared.Walked.{Walked}
 use Rattle.findings.specs.Listing.{partOf, besideOf, brokenAt, ruleFindings, findingsTo, findings, mostFindings, listed, Worked}
-use Rattle.findings.specs.Seeking.{indexOf, groundAt, beforeOf, lastOf, placeOf, listFor, walked}
+use Rattle.findings.specs.Seeking.{indexOf, groundAt, beforeOf, lastOf, Seekable, placeOf, listFor, walked}
 use Rattle.findings.proofs.Filling.{Entered, entered-listed, rule-more, rule-rising, rules-rising, fewer}
 use Rattle.findings.proofs.Most.{at-most}
 use Rattle.findings.proofs.Speaking.{index-of-place, spoken, spoken-inside, spoken-there, spoken-broken}
@@ -136,18 +136,22 @@ module _ (v : Version) (fig : Figure) (r : Run) (ch : Chosen) (l : Lines) where
       rw this (not-met-why b place (rw (by, ep, this) at passed) (rw (by, this) at entered))
 
   -- What is listed is never more than all findings
-  pub listed-few : Worked r l → (sought : Sought) → beforeOf sought < lastOf sought → lastOf sought ≤ lastRule → length (listFor sought v fig r ch l) ≤ mostFindings
+  pub listed-few : Worked r l → (sought : Sought) → Seekable sought → length (listFor sought v fig r ch l) ≤ mostFindings
   unfolding findings
-  listed-few w All some last = at-most v fig r ch l w
-  listed-few w (Why rule place) some last =
+  listed-few w All ok = at-most v fig r ch l w
+  listed-few w (Why rule place) ok =
       let n = r .header .counts in
       let b : ℕ = rule - 1 in
-      let this : rule ≡ b + 1 = omega (arith, some) in
+      let this : rule ≡ b + 1 = omega (arith, ok .some) in
       let in-rule = rule-rising v isBroken rule _ _ (up-to-all (broken (groundAt fig r ch l rule place)) refl) in
       let rule-among = ap length (of-one-rule v isBroken n b) in
-      let among-all = le-trans (rules-rising v isBroken (placesFrom b n) (b + 1) lastRule (omega (arith, last, this))) (fewer v isBroken (placesFrom b n) (placesOf n) (places-fewer b n) lastRule) in
+      let among-all = le-trans (rules-rising v isBroken (placesFrom b n) (b + 1) lastRule (omega (arith, ok .last, this))) (fewer v isBroken (placesFrom b n) (placesOf n) (places-fewer b n) lastRule) in
       le-trans in-rule (le-trans (rw (this, ← rule-among) among-all) (at-most v fig r ch l w))
     where
       up-to-all : (t : Bool) → broken (groundAt fig r ch l rule place) ≡ t → cond t (indexOf place) (placesOf (r .header .counts) rule) ≤ placesOf (r .header .counts) rule
       up-to-all true e = le-of-lt (spoken-inside fig r ch l rule place e)
       up-to-all false e = le-refl _
+
+-- all findings can be sought
+pub all-seekable : Seekable All
+all-seekable = record { some = omega arith; last = omega arith }

@@ -1,5 +1,5 @@
 -- What is sought of a run: all of its findings, or what stands behind one of them (docs/RULES.md, A finding explained).
-use Prim.Native.Nat.{ℕ, _-_}
+use Prim.Native.Nat.{ℕ, _-_, _≤_, _<_}
 use mathlib.Core.Bool.{Bool, cond, _&&_}
 use mathlib.Core.List.{List}
 use lib.Dec.{ltb, eqb}
@@ -45,6 +45,11 @@ beforeOf (Why rule place) = rule - 1
 abbrev pub lastOf : Sought → ℕ
 lastOf All = lastRule
 lastOf (Why rule place) = rule
+
+-- what is sought is of rules that there are
+pub record Seekable (sought : Sought) : Type 0 where
+  pub some : beforeOf sought < lastOf sought
+  pub last : lastOf sought ≤ lastRule
 
 -- the place that is sought; where all findings are, one that none of them has
 abbrev pub placeOf : Sought → ℕ

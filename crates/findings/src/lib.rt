@@ -16,12 +16,11 @@ use site::minimum_points;
 use steps::Figure;
 use weighings::of_kind;
 ghost use mathlib.Core.Path.{_≡_};
-ghost use Prim.Native.Nat.{_≤_, _<_};
+ghost use Prim.Native.Nat.{_≤_};
 ghost use lib.ListN.{take};
 ghost use Rattle.readings.specs.Ranges.{greatestWeighingCount};
-ghost use Rattle.rules.specs.Rules.{lastRule};
 ghost use Rattle.findings.specs.Listing.{besideOf, findingAt, mostFindings, accepted, Worked};
-ghost use Rattle.findings.specs.Seeking.{beforeOf, lastOf, placeOf, walked};
+ghost use Rattle.findings.specs.Seeking.{beforeOf, lastOf, Seekable, placeOf, walked};
 
 // A broken rule: its number, its class and the place.
 pub struct Finding {
@@ -128,7 +127,7 @@ pub fn find(
     sought: Sought,
 ) -> Walked
     requires { ⌜ Worked run lines ⌝ }
-    requires { ⌜ (beforeOf sought < lastOf sought) × (lastOf sought ≤ lastRule) ⌝ }
+    requires { ⌜ Seekable sought ⌝ }
     ensures { λ r. ⌜ r ≡ walked sought v figure run chosen lines ⌝ }
 {
     let header = run.header;

@@ -12,12 +12,10 @@ use readings::headers::Version;
 use records::Run;
 use steps::Figure;
 ghost use mathlib.Core.Path.{_≡_};
-ghost use Prim.Native.Nat.{_≤_, _<_};
 ghost use Rattle.opening.specs.Opening.{versionOf};
 ghost use Rattle.heads.specs.Values.{certificateOf};
 ghost use Rattle.choosing.specs.Choosing.{chosenFor};
-ghost use Rattle.rules.specs.Rules.{lastRule};
-ghost use Rattle.findings.specs.Seeking.{beforeOf, lastOf};
+ghost use Rattle.findings.specs.Seeking.{Seekable};
 ghost use Rattle.job.specs.Places.{runOf};
 ghost use Rattle.job.specs.Reading.{ClearJob};
 ghost use Rattle.reduction.specs.Reducing.{ReducibleFrom, ClearRun, judged, runNamed, judgedRun};
@@ -42,7 +40,7 @@ pub enum Which {
 // sought of its findings.
 pub fn work(s: &[u8], v: Version, figure: Figure, count: usize, run: Run, sought: Sought) -> Reduced
     requires { ⌜ (v ≡ versionOf (now s)) × ReducibleFrom (now s) count run ⌝ }
-    requires { ⌜ (beforeOf sought < lastOf sought) × (lastOf sought ≤ lastRule) ⌝ }
+    requires { ⌜ Seekable sought ⌝ }
     ensures { λ r. ⌜ r ≡ judged sought v figure run (chosenFor (certificateOf (now (s .entry))) count (run .header)) ⌝ }
 {
     let chosen = certs::choose_all(s, v, count, run.header);
@@ -65,7 +63,7 @@ pub fn work(s: &[u8], v: Version, figure: Figure, count: usize, run: Run, sought
 // Run k of a job without trouble, counted from 0 in file order, by a figure, and what is sought of its findings.
 pub fn reduce(s: &[u8], job: Job, figure: Figure, k: usize, sought: Sought) -> Reduced
     requires { ⌜ ClearRun (now s) job k ⌝ }
-    requires { ⌜ (beforeOf sought < lastOf sought) × (lastOf sought ≤ lastRule) ⌝ }
+    requires { ⌜ Seekable sought ⌝ }
     ensures { λ r. ⌜ r ≡ judgedRun sought figure (now (s .entry)) k ⌝ }
 {
     let v = opening::version(s);

@@ -4,6 +4,7 @@ use mathlib.Core.List.{[], _∷_}
 use types.Run.{OneOf, miss}
 use denote.Enum.Declared.{tagOf}
 use borrow.Author.Needs.{needs}
+use native.Mathlib.Omega.{arith}
 use Rattle.grounds.specs.declared.Ground.{Ground}
 use Rattle.grounds.specs.declared.Ground.the-variants.{Silent}
 use Rattle.grounds.proofs.Ground.{the-type}
@@ -24,7 +25,8 @@ cast-number : tie.Need-cast-number
 cast-number c = search needs
 
 reduce-requires : tie.Need-reduce-requires
-reduce-requires c κs = search needs
+reduce-requires c κs =
+    (c .before .before .before .pre, record { some = omega (arith, c .before .if1 .left); last = omega (arith, c .if2 .left) })
 
 enum-told : tie.Need-enum-told
 enum-told c = search needs

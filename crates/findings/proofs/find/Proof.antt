@@ -86,7 +86,7 @@ isBroken b rule i = broken (groundOf (partOf (start b .args .run) rule i) (besid
 
 loop-holds : tie.Need-loop-holds Inv-loop2 μ-loop2 Inv-loop μ-loop
 loop-holds c =
-    let some = start c .pre .1 .0 in (
+    let some = start c .pre .1 .some in (
       (le-refl _, omega (arith, some, c .before2 .ensures, c .before .before .last .ensures)),
       (
         (λ rule above below. absurd (omega (arith, above, below))),
@@ -139,7 +139,7 @@ fits b = le-trans (fewer _ _ _ _ (places-fewer _ _) _) (all-fit-beside _ _ _ _ _
 rule-in : (t : Turn) → done t < lastRule
 rule-in t =
     let b = begun t in
-    omega (arith, t .before .before .before .loop-test .taken, b .before .before .last .ensures, start b .pre .1 .1)
+    omega (arith, t .before .before .before .loop-test .taken, b .before .before .last .ensures, start b .pre .1 .last)
 
 place-in : (t : Turn) → passed t < placesOf (start (begun t) .args .run .header .counts) (done t + 1)
 place-in t = rw (t .before .before .places .ensures) at (t .loop2-test .taken)
@@ -274,7 +274,7 @@ returns-2 c =
     let begun = start b in
     let end : c .before .loop .done ≡ b .before .before .last .result = omega (arith, c .before .loop .inv .0 .1) in
     let last-is = end ∙ b .before .before .last .ensures in
-    not-met _ _ _ _ _ (begun .args .sought) (b .before2 .result) (b .before .before .before .beside-of .ensures) (b .before2 .ensures) (b .before .place .ensures) (begun .pre .1 .0)
+    not-met _ _ _ _ _ (begun .args .sought) (b .before2 .result) (b .before .before .before .beside-of .ensures) (b .before2 .ensures) (b .before .place .ensures) (begun .pre .1 .some)
     (rw last-is at (c .before .loop .inv .1 .0))
     (rw last-is at (c .before .loop .inv .1 .1))
 

@@ -1,15 +1,14 @@
 -- Each call's promise, one after another.
-use Prim.Native.Nat.{_≤_, _<_}
+use Prim.Native.Nat.{_≤_}
 use borrow.Author.Needs.{needs}
 use Rattle.readings.specs.declared.headers.Version.{Version}
 use Rattle.records.specs.declared.Run.{Run}
 use Rattle.lines.specs.declared.Lines.{Lines}
 use Rattle.choosing.specs.declared.Chosen.{Chosen}
 use Rattle.steps.specs.declared.Figure.{Figure}
-use Rattle.rules.specs.Rules.{lastRule}
 use Rattle.findings.specs.declared.Sought.{Sought}
 use Rattle.findings.specs.Listing.{mostFindings, listed, Worked}
-use Rattle.findings.specs.Seeking.{beforeOf, lastOf, walked}
+use Rattle.findings.specs.Seeking.{Seekable, walked}
 use Rattle.findings.proofs.Seeking.{listed-few}
 use Rattle.reduction.proofs.Working.{lines-workable, lines-worked, is-judged}
 use Rattle.reduction.proofs.work.Statement.{statement}
@@ -37,15 +36,15 @@ find-requires c κs =
     let start = c .before .before .before .before .before .before in
     (record { ok = start .pre .0 .1 .reducible .run; y = _; cp = _; nozzle = _; is = c .lines .ensures .0 }, start .pre .1)
 
-found-few : (sought : Sought) (v : Version) (fig : Figure) {r : Run} (ch : Chosen) {l : Lines} → Worked r l → beforeOf sought < lastOf sought → lastOf sought ≤ lastRule → walked sought v fig r ch l .findings .count ≤ mostFindings
+found-few : (sought : Sought) (v : Version) (fig : Figure) {r : Run} (ch : Chosen) {l : Lines} → Worked r l → Seekable sought → walked sought v fig r ch l .findings .count ≤ mostFindings
 unfolding listed
-found-few sought v fig ch w some last = listed-few v fig _ ch _ w sought some last
+found-few sought v fig ch w ok = listed-few v fig _ ch _ w sought ok
 
 accepted-requires : tie.Need-accepted-requires
 accepted-requires c κs =
     let args = c .before .before .before .before .before .before .before .before .args in
-    let (worked, (some, last)) = find-requires (c .before .before) (tt {0}) in
-    rw (c .before .find .ensures) (found-few (args .sought) (args .v) (args .figure) _ worked some last)
+    let (worked, ok) = find-requires (c .before .before) (tt {0}) in
+    rw (c .before .find .ensures) (found-few (args .sought) (args .v) (args .figure) _ worked ok)
 
 sheet-requires : tie.Need-sheet-requires
 sheet-requires c κs = search needs

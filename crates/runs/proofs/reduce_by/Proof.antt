@@ -5,6 +5,7 @@ use mathlib.Core.Path.{_∙_, sym}
 use Rattle.reduction.specs.Reducing.{ClearRun}
 use Rattle.job.proofs.ReadJobs.{read-clear, count-of-runs, place-fits}
 use Rattle.reduction.proofs.ClearJobs.{found-few}
+use Rattle.findings.proofs.Seeking.{all-seekable}
 use Rattle.reduction.proofs.Naming.{found-inside}
 use Rattle.reduction.proofs.Working.{judged-all}
 use Rattle.handing.proofs.Handing.{came-refused, came-same}
@@ -46,7 +47,7 @@ found c =
     record { job = job; inside = rw (count-of-runs _ _ job) at (found-inside _ _ _ named) }
 
 reduce-requires : tie.Need-reduce-requires
-reduce-requires c κs = (found c, (omega arith, omega arith))
+reduce-requires c κs = (found c, all-seekable)
 
 hand-over-requires : tie.Need-hand-over-requires
 hand-over-requires c κs =

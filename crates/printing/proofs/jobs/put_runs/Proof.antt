@@ -3,6 +3,7 @@ use Prim.Native.Nat.{_-_, _≤_}
 use native.Mathlib.Omega.{arith}
 use Rattle.reduction.specs.Reducing.{ClearRun, reducedRun}
 use Rattle.job.proofs.ReadJobs.{count-of-runs, few-runs}
+use Rattle.findings.proofs.Seeking.{all-seekable}
 use Rattle.reduction.proofs.ClearJobs.{found-few}
 use Rattle.reduction.proofs.Working.{judged-all}
 use Rattle.output.specs.Bytes.{joined}
@@ -36,7 +37,7 @@ clear-run c =
     record { job = start .pre .0; inside = rw (count-of-runs _ _ (start .pre .0)) at (c .loop-test .taken) }
 
 reduce-requires : tie.Need-reduce-requires Inv-loop μ-loop
-reduce-requires c κs = (clear-run (c .before), (omega arith, omega arith))
+reduce-requires c κs = (clear-run (c .before), all-seekable)
 
 put-run-requires : tie.Need-put-run-requires Inv-loop μ-loop
 put-run-requires c κs =
