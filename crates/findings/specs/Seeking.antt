@@ -68,6 +68,6 @@ abbrev pub groundKept : Sought → Figure → Run → Chosen → Lines → Groun
 groundKept All fig r ch l = Silent
 groundKept (Why rule place) fig r ch l = ifBroken (groundAt fig r ch l rule place)
 
--- What comes of it
+-- What the walk over the rules comes to
 abbrev pub walked : Sought → Version → Figure → Run → Chosen → Lines → Walked
 walked sought v fig r ch l = record { findings = listed (listFor sought v fig r ch l); ground = groundKept sought fig r ch l }
