@@ -2,10 +2,9 @@
 use Prim.Native.Nat.{ℕ, _≤_, _<_}
 use mathlib.Core.Path.{_≡_, refl}
 use mathlib.Core.Bool.{Bool, true, false, cond}
-use mathlib.Core.List.{List, [], _∷_}
+use mathlib.Core.List.{[]}
 use borrow.Author.Tests.{ltb-true}
 use lib.Dec.{ltb, eqb, lit<}
-use Rattle.numbered.specs.Numbered.{Numbered, rowOf}
 use Rattle.readings.specs.declared.headers.Version.{Version}
 use Rattle.readings.specs.Ranges.{greatestPointCount, greatestTotalSeconds}
 use Rattle.readings.proofs.Ranges.{both-left, within-greatest}
@@ -19,7 +18,6 @@ use Rattle.factors.specs.Factor.{factorOf, coefficientOf, diametersOf}
 use Rattle.factors.specs.InRange.{ChosenOk}
 use Rattle.factors.proofs.Values.{chosen-in-range, factor-range, coefficient-range, diameters-range}
 use Rattle.steps.specs.declared.Figure.{Figure}
-use Rattle.grounds.specs.declared.Ground.{Ground}
 use Rattle.grounds.specs.declared.Ground.the-variants.{Silent}
 use Rattle.site.specs.Site.{minimumPoints}
 use Rattle.conditions.specs.declared.Part.{Part}
@@ -37,25 +35,11 @@ use Rattle.reduction.specs.Reducing.{chosenIn}
 use Rattle.demands.specs.FigureFile.{figureIn}
 use Rattle.demands.proofs.GoodParts.{good-job}
 use Rattle.reviewing.specs.Numbers.{NumbersFit}
+use Rattle.reviewing.proofs.Rows.{EachRow, end, _then_, any-rule}
 use Rattle.reviewing.proofs.FitsShown.{ShownFits, silent-fits}
 use Rattle.reviewing.proofs.FitsGrounds.{PartOk, RatioFits, missing-fits, moved-fits, uneven-fits, narrow-fits, disturbed-fits, wrong-points-fits, short-fits, leaking-fits, line-fits, ratio-fits, unsteady-fits, lacking-fits, negative-fits}
 use Rattle.reviewing.proofs.FitsLines.{time-few, percent-fits, catch-in-range}
 use Rattle.reviewing.proofs.FitsPoints.{mostPoints, least-few}
-
--- Where what each row shows fits, so does what the rule of any number shows
-
-infixr 50 _then_
-data EachRow : List (Numbered Ground) → Type 0 where
-  none : EachRow []
-  _then_ : {rule : Numbered Ground} {rules : List (Numbered Ground)} → ShownFits (rule .row) → EachRow rules → EachRow (rule ∷ rules)
-
-any-rule : {rules : List (Numbered Ground)} (n : ℕ) → EachRow rules → ShownFits (rowOf Silent rules n)
-any-rule n none = silent-fits
-any-rule n (_then_ {rule} {rules} own rest) = go (eqb n (rule .number)) (any-rule n rest)
-  where
-    go : (t : Bool) → ShownFits (rowOf Silent rules n) → ShownFits (cond t (rule .row) (rowOf Silent rules n))
-    go true later = own
-    go false later = later
 
 -- The table, of a part in range and beside what is in range
 
@@ -68,29 +52,29 @@ record BesideOk (b : Beside) : Type 0 where
   percent : RatioFits (b .lines .sampling .isokinetic)
   catch : CatchOk (b .lines .sampling .catch)
 
-table-fits : (part : Part) (b : Beside) → PartOk part → BesideOk b → EachRow (table part b)
+table-fits : (part : Part) (b : Beside) (n : ℕ) → PartOk part → BesideOk b → EachRow ShownFits n (table part b)
 unfolding table
-table-fits part b own ok =
-    missing-fits _
-    then missing-fits _
-    then missing-fits _
-    then missing-fits _
-    then moved-fits _ _ (ok .chosen .before) (ok .chosen .after)
-    then uneven-fits _ (ok .chosen .nozzle)
-    then narrow-fits _ (ok .site)
-    then disturbed-fits _ (ok .site)
-    then wrong-points-fits _ _ _ (ok .least) (ok .points)
-    then short-fits part
-    then leaking-fits _ _ part (ok .time) own
-    then line-fits _
-    then line-fits _
-    then ratio-fits _ _ _ (ok .percent) (lit< tt)
-    then ratio-fits _ _ _ (ok .percent) (lit< tt)
-    then unsteady-fits part own
-    then lacking-fits _
-    then lacking-fits _
-    then negative-fits _ (ok .catch)
-    then none
+table-fits part b n own ok =
+    (λ e. missing-fits _)
+    then (λ e. missing-fits _)
+    then (λ e. missing-fits _)
+    then (λ e. missing-fits _)
+    then (λ e. moved-fits _ _ (ok .chosen .before) (ok .chosen .after))
+    then (λ e. uneven-fits _ (ok .chosen .nozzle))
+    then (λ e. narrow-fits _ (ok .site))
+    then (λ e. disturbed-fits _ (ok .site))
+    then (λ e. wrong-points-fits _ _ _ (ok .least) (ok .points))
+    then (λ e. short-fits part)
+    then (λ e. leaking-fits _ _ part (ok .time) own)
+    then (λ e. line-fits _)
+    then (λ e. line-fits _)
+    then (λ e. ratio-fits _ _ _ (ok .percent) (lit< tt))
+    then (λ e. ratio-fits _ _ _ (ok .percent) (lit< tt))
+    then (λ e. unsteady-fits part own)
+    then (λ e. lacking-fits _)
+    then (λ e. lacking-fits _)
+    then (λ e. negative-fits _ (ok .catch))
+    then end
 
 -- A run in range, with certificates in range
 
@@ -131,7 +115,7 @@ module _ (r : Run) (run : RunOk r) where
         go : (b : Bool) → speaksOf (r .header .counts) rule place ≡ b → ShownFits (cond b (groundOf (partOf r rule (indexOf place)) (besideOf fig r ch (linesFor v r ch)) rule) Silent)
         go true e =
             let inside = ltb-true _ _ (both-left (ltb (indexOf place) (placesOf (r .header .counts) rule)) _ e) in
-            any-rule rule (table-fits _ _ (part-ok rule (indexOf place) inside) beside-ok)
+            any-rule ShownFits silent-fits rule (table-fits _ _ rule (part-ok rule (indexOf place) inside) beside-ok)
         go false e = silent-fits
 
 -- Of every good job, by a good figure or none. The two distances of rule 8 have no range of their own: one is shown only where it makes the

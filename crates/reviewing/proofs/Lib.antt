@@ -4,6 +4,7 @@ pub mod Placed
 pub mod SiteNumbers
 pub mod Answered
 pub mod TwoReasons
+pub mod Rows
 pub mod FitsShown
 pub mod FitsPoints
 pub mod FitsGrounds

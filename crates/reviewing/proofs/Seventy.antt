@@ -6,12 +6,14 @@ use mathlib.Core.List.{List, [], _∷_, _++_}
 use native.Mathlib.Omega.{arith}
 use borrow.Author.Tests.{eqb-true}
 use lib.Dec.{eqb}
+use lib.IntN.{ℤ}
 use lib.ListN.{length, length-append}
 use Rattle.numbered.specs.Numbered.{Numbered, rowOf}
 use Rattle.readings.specs.declared.headers.Version.{Version}
 use Rattle.readings.specs.Ranges.{meter, pitot, nozzle}
 use Rattle.records.specs.declared.Certificate.{Certificate}
 use Rattle.records.specs.declared.Run.{Run}
+use Rattle.records.specs.declared.Site.{Site}
 use Rattle.records.specs.declared.RunHeader.{RunHeader}
 use Rattle.values.specs.declared.Ratio.{Ratio}
 use Rattle.values.specs.declared.Ratio.the-variants.{Exact, Unworked}
@@ -26,7 +28,8 @@ use Rattle.grounds.specs.declared.Ground.the-variants.{Silent}
 use Rattle.grounds.specs.Showing.{Condition, conditions, brokenOf, shown}
 use Rattle.conditions.specs.declared.Part.{Part}
 use Rattle.conditions.specs.declared.Part.the-variants.{Whole, OnePoint, OneSegment, OneWeighing}
-use Rattle.conditions.specs.Conditions.{missing, moved, uneven, short, leaking, lineAgainst, ratioAgainst, unsteady}
+use Rattle.conditions.specs.Conditions.{missing, moved, uneven, short, leaking, lineAgainst, ratioAgainst, unsteady, lacking, negative}
+use Rattle.site.specs.Site.{narrow}
 use Rattle.rules.specs.declared.Beside.{Beside}
 use Rattle.rules.specs.Rules.{table, groundOf}
 use Rattle.steps.specs.declared.Figure.{Figure}
@@ -46,6 +49,7 @@ use Rattle.forms.specs.Forms.{headIn, conditionIn, dayIn}
 use Rattle.explanations.specs.Written.{conditionsIn, sidesIn, daysIn, written}
 use Rattle.explanations.proofs.Lengths.{shown-few, at-most-two}
 use Rattle.reviewing.specs.Numbers.{SeventyBytes}
+use Rattle.reviewing.proofs.Rows.{EachRow, end, _then_, any-rule}
 
 -- How many bytes there are: 2, 34 a condition, 5 a certificate day
 
@@ -187,80 +191,45 @@ unsteady-one (OnePoint p) = omega arith
 unsteady-one (OneSegment s) = omega arith
 unsteady-one (OneWeighing w) = omega arith
 
--- of a table, each row of that number
-abbrev EachOne : List (Numbered Ground) → ℕ → Type 0
-EachOne [] n = Unit {0}
-EachOne (rule ∷ rules) n = (eqb n (rule .number) ≡ true → length (conditions (rule .row)) ≤ 1) × EachOne rules n
+-- a ground has one condition at most
+abbrev AtMostOne : Ground → Type 0
+AtMostOne g = length (conditions g) ≤ 1
 
-one-in : (rules : List (Numbered Ground)) (n : ℕ) → EachOne rules n → length (conditions (rowOf Silent rules n)) ≤ 1
+narrow-one : (s : Site) → AtMostOne (narrow s)
 unfolding conditions
-one-in [] n all = omega arith
-one-in (rule ∷ rules) n (first, rest) = go (one-in rules n rest) (eqb n (rule .number)) refl
-  where
-    go : length (conditions (rowOf Silent rules n)) ≤ 1 → (b : Bool) → eqb n (rule .number) ≡ b → length (conditions (cond b (rule .row) (rowOf Silent rules n))) ≤ 1
-    go later true e = first e
-    go later false e = later
+narrow-one s = omega arith
 
-rows-one : (part : Part) (b : Beside) (n : ℕ) → eqb n 8 ≡ false → eqb n 9 ≡ false → EachOne (table part b) n
+lacking-one : (weighed : ℕ) → AtMostOne (lacking weighed)
+unfolding conditions
+lacking-one weighed = omega arith
+
+negative-one : (catch : ℤ) → AtMostOne (negative catch)
+unfolding conditions
+negative-one catch = omega arith
+
+rows-one : (part : Part) (b : Beside) (n : ℕ) → eqb n 8 ≡ false → eqb n 9 ≡ false → EachRow AtMostOne n (table part b)
 unfolding table conditions
-rows-one part b n not-eight not-nine = (
-  λ e. missing-one _,
-  (
-    λ e. missing-one _,
-    (
-      λ e. missing-one _,
-      (
-        λ e. missing-one _,
-        (
-          λ e. moved-one _ _,
-          (
-            λ e. uneven-one _,
-            (
-              λ e. omega arith,
-              (
-                λ e. absurd (true≢false (sym e ∙ not-eight)),
-                (
-                  λ e. absurd (true≢false (sym e ∙ not-nine)),
-                  (
-                    λ e. short-one part,
-                    (
-                      λ e. leaking-one _ _ part,
-                      (
-                        λ e. line-one _ _ _,
-                        (
-                          λ e. line-one _ _ _,
-                          (
-                            λ e. ratio-one _ _ _,
-                            (
-                              λ e. ratio-one _ _ _,
-                              (
-                                λ e. unsteady-one part,
-                                (
-                                  λ e. omega arith,
-                                  (
-                                    λ e. omega arith,
-                                    (
-                                      λ e. omega arith,
-                                      tt,
-                                    ),
-                                  ),
-                                ),
-                              ),
-                            ),
-                          ),
-                        ),
-                      ),
-                    ),
-                  ),
-                ),
-              ),
-            ),
-          ),
-        ),
-      ),
-    ),
-  ),
-)
+rows-one part b n not-eight not-nine =
+    (λ e. missing-one _)
+    then (λ e. missing-one _)
+    then (λ e. missing-one _)
+    then (λ e. missing-one _)
+    then (λ e. moved-one _ _)
+    then (λ e. uneven-one _)
+    then (λ e. narrow-one (b .site))
+    then (λ e. absurd (true≢false (sym e ∙ not-eight)))
+    then (λ e. absurd (true≢false (sym e ∙ not-nine)))
+    then (λ e. short-one part)
+    then (λ e. leaking-one _ _ part)
+    then (λ e. line-one _ _ _)
+    then (λ e. line-one _ _ _)
+    then (λ e. ratio-one _ _ _)
+    then (λ e. ratio-one _ _ _)
+    then (λ e. unsteady-one part)
+    then (λ e. lacking-one (b .filters))
+    then (λ e. lacking-one (b .rinses))
+    then (λ e. negative-one (b .lines .sampling .catch))
+    then end
 
 module _ (v : Version) (fig : Figure) (f : ℕ → Certificate) (n : ℕ) (r : Run) (place : ℕ) where
   -- what is shown of any rule but 8 and 9
@@ -271,8 +240,11 @@ module _ (v : Version) (fig : Figure) (f : ℕ → Certificate) (n : ℕ) (r : R
       rows : List (Numbered Ground)
       rows = table (partOf r rule (indexOf place)) (besideOf fig r (chosenFor f n (r .header)) (linesFor v r (chosenFor f n (r .header))))
 
-      few : length (conditions (rowOf Silent rows rule)) ≤ 1
-      few = one-in rows rule (rows-one (partOf r rule (indexOf place)) (besideOf fig r (chosenFor f n (r .header)) (linesFor v r (chosenFor f n (r .header)))) rule not-eight not-nine)
+      none-at-all : AtMostOne Silent
+      none-at-all = omega arith
+
+      few : AtMostOne (rowOf Silent rows rule)
+      few = any-rule AtMostOne none-at-all rule (rows-one (partOf r rule (indexOf place)) (besideOf fig r (chosenFor f n (r .header)) (linesFor v r (chosenFor f n (r .header)))) rule not-eight not-nine)
 
       go : (b : Bool) → length (brokenOf (conditions (cond b (rowOf Silent rows rule) Silent))) ≤ 1
       go true = omega (arith, shown-few (conditions (rowOf Silent rows rule)), few)
