@@ -16,16 +16,18 @@ import sys
 
 # Laws that would meet the definition that they speak of: they get `_lem`.
 LAWS = (
-    "all-below all-of bit_length certificate-count coefficient-from distance-size factor-from good-seconds job-trouble left_over no-point "
-    "no-segment no-weighing point-of reason-of run-count segment-of signed-bits starred-factors starred-isokinetic starred-positions "
-    "starred-weighings unless-zero weighing-of wrong-seconds"
+    "all-below all-of base-fits bit_length certificate-count coefficient-from diameter-most distance-size factor-from "
+    "first-most good-seconds is-step job-trouble left_over no-finding no-point no-segment no-weighing of-header of-run "
+    "point-of pressure-least pressure-most reason-of run-count second-most segment-of signed-bits starred-factors "
+    "starred-isokinetic starred-positions starred-weighings step-rows time-most unless-zero weighing-of wrong-seconds "
 )
 APART = {it: it.replace("-", "_") + "_lem" for it in LAWS.split()}
 
 PART = r"[^\s(){}.;,@\"«»:`]"
 DECLARED = re.compile(rf"^(?:(?:abbrev|unfoldable|pub)\s+)*({PART}+)(?:\s+:|$)")
-FIELD = re.compile(rf"^\s+(?:pub\s+)?({PART}+)\s+:(?:\s|$)")
-HEAD = re.compile(r"^(?:pub\s+)?(record|data)\s+(\S+)")
+# A field, a constructor, or what a section or a `where` declares.
+INSIDE = re.compile(rf"^\s+(?:(?:abbrev|unfoldable|pub)\s+)*({PART}+)\s+:(?:\s|$)")
+HEAD = re.compile(r"^\s*(?:pub\s+)?(?:record|data)\s+(\S+)")
 
 
 def snake(name):
@@ -38,18 +40,10 @@ def own_names():
     names = {}
     files = glob.glob("crates/*/specs/**/*.antt", recursive=True) + glob.glob("crates/*/proofs/*.antt")
     for file in sorted(files):
-        inside = False
         for line in open(file, encoding="utf-8"):
-            if line.startswith(("--", "use ", "pub use ", "mod ", "pub mod ")):
-                inside = inside and line.startswith("--")
+            if line.lstrip().startswith(("--", "use ", "pub use ", "mod ", "pub mod ")):
                 continue
-            if m := HEAD.match(line):
-                inside = True
-                names.setdefault(m[2], set()).add(file)
-            elif m := DECLARED.match(line):
-                inside = False
-                names.setdefault(m[1], set()).add(file)
-            elif inside and (m := FIELD.match(line)):
+            if m := HEAD.match(line) or DECLARED.match(line) or INSIDE.match(line):
                 names.setdefault(m[1], set()).add(file)
     return names
 
@@ -59,6 +53,8 @@ def table(names):
     changes = {}
     for name in names:
         plain = name.strip("◌_")
+        if "_" in plain and plain in APART and not any(snake(it) == plain for it in names if it != plain):
+            continue
         if plain in APART or not plain[:1].isupper() and re.search(r"[a-z0-9][A-Z]|-", plain):
             changes[plain] = APART.get(plain, snake(plain))
     return changes
@@ -92,7 +88,7 @@ def code(text, changes, comment):
 def main():
     names = own_names()
     changes = table(names)
-    if all(it in APART for it in changes):
+    if not changes:
         print("respell: every name has its spelling already")
         return
     met = {}

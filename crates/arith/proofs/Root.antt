@@ -104,12 +104,12 @@ pub root_nearest : (x : ℕ) → 4 * x < 2 ^ 64 → NearestRootOf x (nearest_roo
 root_nearest x fits p =
     let i : IsRoot (4 * x) (nearest_root (4 * x)) = nearest_is (4 * x) fits in
     let q : ℕ = nearest_root (4 * x) in (
-      (λ below. le_trans (square_mono (below-odd p q below)) i.low),
+      (λ below. le_trans (square_mono (below_odd p q below)) i.low),
       (λ above. le_trans (le_of_lt i.high) (square_mono (above_odd p q above))),
     )
   where
-    below-odd : (p q : ℕ) → p < q → p + q ≤ 2 * q - 1
-    below-odd p q h = omega arith
+    below_odd : (p q : ℕ) → p < q → p + q ≤ 2 * q - 1
+    below_odd p q h = omega arith
 
     above_odd : (p q : ℕ) → q < p → 2 * q + 1 ≤ p + q
     above_odd p q h = omega arith

@@ -88,21 +88,21 @@ module _ (y w : ℕ) (fits : y < 2 ^ 64) (e : w ≡ whole_root (y / 4)) where
   half_is : IsWhole (y / 4) w
   half_is = rw e (whole_is (y / 4) (omega arith))
 
-  pub half-most : w ≤ 2147483647
-  half-most =
+  pub half_most : w ≤ 2147483647
+  half_most =
       let quarter : y / 4 < 2147483648 * 2147483648 = omega arith in
       let below : w < 2147483648 = square_lt w 2147483648 half_is.low quarter in
       omega arith
 
-  pub nearest-up : (2 * w + 1) * (2 * w + 1) ≤ y → w + 1 ≡ nearest_root y
-  nearest-up reached =
+  pub nearest_up : (2 * w + 1) * (2 * w + 1) ≤ y → w + 1 ≡ nearest_root y
+  nearest_up reached =
       let odd : 2 * (w + 1) - 1 ≡ 2 * w + 1 = omega arith in
       let wider : (2 * w + 2) * (2 * w + 2) ≤ (2 * (w + 1) + 1) * (2 * (w + 1) + 1) = square_mono (omega arith) in
       root_unique
       (record { low = rw odd reached; high = lt_of_lt_of_le (digit_high y w half_is.high) wider })
       (nearest_is y fits)
 
-  pub nearest-down : y < (2 * w + 1) * (2 * w + 1) → w ≡ nearest_root y
-  nearest-down short =
+  pub nearest_down : y < (2 * w + 1) * (2 * w + 1) → w ≡ nearest_root y
+  nearest_down short =
       let narrower : (2 * w - 1) * (2 * w - 1) ≤ 2 * w * (2 * w) = square_mono (omega arith) in
       root_unique (record { low = le_trans narrower (digit_low y w half_is.low); high = short }) (nearest_is y fits)

@@ -10,7 +10,7 @@ use Rattle.opening.specs.Opening.{run_count_of}
 use Rattle.job.specs.declared.Job.{Job}
 use Rattle.job.specs.Places.{run_of}
 use Rattle.job.specs.Reading.{read_job, ClearJob}
-use Rattle.job.proofs.ReadJobs.{count-of-runs, read_refused}
+use Rattle.job.proofs.ReadJobs.{count_of_runs, read_refused}
 use Rattle.reduction.specs.declared.Which.{Which}
 use Rattle.reduction.specs.declared.Which.TheVariants.{Index, NoRun}
 use Rattle.reduction.specs.Reducing.{run_named}
@@ -37,7 +37,7 @@ module _ (form : Form) (fig : Figure) (s : List ℕ) (run rule place : ℕ) (old
 
   module _ (j : Job) {which : Which} (ok : ClearJob s j) (ew : which ≡ run_named (run_of s) run j.runs) where
     named : which ≡ run_named (run_of s) run (run_count_of s)
-    named = ew ∙ ap (run_named (run_of s) run) (count-of-runs s j ok)
+    named = ew ∙ ap (run_named (run_of s) run) (count_of_runs s j ok)
 
     pub no_run : which ≡ NoRun → Explains form fig s run rule place old old (Refused 10 0)
     unfolding explaining
@@ -48,13 +48,13 @@ module _ (form : Form) (fig : Figure) (s : List ℕ) (run rule place : ℕ) (old
       unfolding explaining
       whole = rw (ok.clear, sym named ∙ ek, ex)
 
-      pub no-finding : x ≡ NoFinding → Explains form fig s run rule place old old (Refused 15 0)
+      pub no_finding_lem : x ≡ NoFinding → Explains form fig s run rule place old old (Refused 15 0)
       unfolding of_explained
-      no-finding en = refused old (whole ∙ rw en)
+      no_finding_lem en = refused old (whole ∙ rw en)
 
-      pub one-finding : {e : Explanation} {out : List ℕ} {a : Answer} → x ≡ Because e → HandsOver (written form e) old out a → Explains form fig s run rule place old out a
+      pub one_finding : {e : Explanation} {out : List ℕ} {a : Answer} → x ≡ Because e → HandsOver (written form e) old out a → Explains form fig s run rule place old out a
       unfolding of_explained
-      one-finding ee h = rw (whole, ee) h
+      one_finding ee h = rw (whole, ee) h
 
 -- By what is supplied for a figure: its trouble comes first, and without one the figure decides
 module _ (form : Form) (f : Supplied) {g : Supplied} (s : List ℕ) (run rule place : ℕ) (old : List ℕ) (e : g ≡ f) where

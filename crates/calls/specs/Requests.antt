@@ -12,19 +12,19 @@ use Rattle.leverbonnet.specs.Calls.{Reduces, PrintsText, ExplainsFinding, LaysOu
 module _ (call a b c : ℕ) (figure job first second firstOut secondOut : List ℕ) (r : ℕ) where
   -- by the call's number, what the public call promises, and an output that it does not take is as it was; the answer is 0 where there is no such call
   pub data ByCall : Type 0 where
-    byReduce : call ≡ 1 → Reduces none_supplied job a first second firstOut secondOut r → ByCall
-    byRunCount : call ≡ 2 → r ≡ packed (count_answer job) → firstOut ≡ first → secondOut ≡ second → ByCall
-    byRunNumber : call ≡ 3 → r ≡ packed (number_answer job a) → firstOut ≡ first → secondOut ≡ second → ByCall
-    byRoundLayout : call ≡ 4 → LaysOut (round_outcome a b c (length first)) first firstOut r → secondOut ≡ second → ByCall
-    byRectLayout : call ≡ 5 → LaysOut (rectangle_outcome a b c (length first)) first firstOut r → secondOut ≡ second → ByCall
-    bySheetText : call ≡ 6 → PrintsText none_supplied job first firstOut r → secondOut ≡ second → ByCall
-    byReduceByFigure : call ≡ 7 → Reduces (read_figure figure) job a first second firstOut secondOut r → ByCall
-    bySheetTextByFigure : call ≡ 8 → PrintsText (read_figure figure) job first firstOut r → secondOut ≡ second → ByCall
-    byExplain : call ≡ 9 → ExplainsFinding Bytes none_supplied job a b c first firstOut r → secondOut ≡ second → ByCall
-    byExplainByFigure : call ≡ 10 → ExplainsFinding Bytes (read_figure figure) job a b c first firstOut r → secondOut ≡ second → ByCall
-    byExplainText : call ≡ 11 → ExplainsFinding Text none_supplied job a b c first firstOut r → secondOut ≡ second → ByCall
-    byExplainTextByFigure : call ≡ 12 → ExplainsFinding Text (read_figure figure) job a b c first firstOut r → secondOut ≡ second → ByCall
-    byNone : (1 ≤ call → call ≤ 12 → ⊥) → r ≡ 0 → firstOut ≡ first → secondOut ≡ second → ByCall
+    by_reduce : call ≡ 1 → Reduces none_supplied job a first second firstOut secondOut r → ByCall
+    by_run_count : call ≡ 2 → r ≡ packed (count_answer job) → firstOut ≡ first → secondOut ≡ second → ByCall
+    by_run_number : call ≡ 3 → r ≡ packed (number_answer job a) → firstOut ≡ first → secondOut ≡ second → ByCall
+    by_round_layout : call ≡ 4 → LaysOut (round_outcome a b c (length first)) first firstOut r → secondOut ≡ second → ByCall
+    by_rect_layout : call ≡ 5 → LaysOut (rectangle_outcome a b c (length first)) first firstOut r → secondOut ≡ second → ByCall
+    by_sheet_text : call ≡ 6 → PrintsText none_supplied job first firstOut r → secondOut ≡ second → ByCall
+    by_reduce_by_figure : call ≡ 7 → Reduces (read_figure figure) job a first second firstOut secondOut r → ByCall
+    by_sheet_text_by_figure : call ≡ 8 → PrintsText (read_figure figure) job first firstOut r → secondOut ≡ second → ByCall
+    by_explain : call ≡ 9 → ExplainsFinding Bytes none_supplied job a b c first firstOut r → secondOut ≡ second → ByCall
+    by_explain_by_figure : call ≡ 10 → ExplainsFinding Bytes (read_figure figure) job a b c first firstOut r → secondOut ≡ second → ByCall
+    by_explain_text : call ≡ 11 → ExplainsFinding Text none_supplied job a b c first firstOut r → secondOut ≡ second → ByCall
+    by_explain_text_by_figure : call ≡ 12 → ExplainsFinding Text (read_figure figure) job a b c first firstOut r → secondOut ≡ second → ByCall
+    by_none : (1 ≤ call → call ≤ 12 → ⊥) → r ≡ 0 → firstOut ≡ first → secondOut ≡ second → ByCall
 
 -- the call and its numbers are those of the header
 abbrev pub Replied : List ℕ → List ℕ → List ℕ → List ℕ → List ℕ → List ℕ → List ℕ → ℕ → Type 0

@@ -20,14 +20,14 @@ where_found k near = rw (lt-ltb 0 (suc k) (omega arith))
 
 module _ (after : Bool) (kind : ℕ) (identity : Identity) (day : ℕ) (f : ℕ → Certificate) where
   -- the best so far, by how many certificates there are up to it, 0 for none
-  abbrev pub lookupAt : ℕ → Lookup
-  lookupAt zero = Nothing
-  lookupAt (suc k) = Found (f k)
+  abbrev pub lookup_at : ℕ → Lookup
+  lookup_at zero = Nothing
+  lookup_at (suc k) = Found (f k)
 
   -- it is the choice among the first n, and `nearest` is its day
   pub record Best (n best nearest : ℕ) : Type 0 where
     pub within : best ≤ n
-    pub is : lookupAt best ≡ chosen after kind identity day f n
+    pub is : lookup_at best ≡ chosen after kind identity day f n
     pub dated : (k : ℕ) → best ≡ suc k → nearest ≡ (f k).day
 
   pub best_none : (nearest : ℕ) → Best 0 0 nearest
@@ -35,7 +35,7 @@ module _ (after : Bool) (kind : ℕ) (identity : Identity) (day : ℕ) (f : ℕ 
   best_none nearest = record { within = le_refl 0; is = refl; dated = λ k e. absurd (omega (arith, e)) }
 
   -- one more, which takes its place ..
-  pub best-replaced :
+  pub best_replaced :
       (n : ℕ) {best nearest : ℕ} {c : Certificate} {test : Bool}
       → Best n best nearest
       → c ≡ f n
@@ -43,7 +43,7 @@ module _ (after : Bool) (kind : ℕ) (identity : Identity) (day : ℕ) (f : ℕ 
       → test ≡ true
       → Best (n + 1) (n + 1) c.day
   unfolding chosen keep
-  best-replaced n {best} {nearest} {c} b own t taken =
+  best_replaced n {best} {nearest} {c} b own t taken =
       record { within = le_refl (n + 1); is = rw (add-one n) (took best b.is b.dated tests); dated = dated }
     where
       tests : replaces after kind identity day (ltb 0 best) nearest (f n) ≡ true
@@ -54,14 +54,14 @@ module _ (after : Bool) (kind : ℕ) (identity : Identity) (day : ℕ) (f : ℕ 
           let same : n ≡ k = omega (arith, e) in
           ap (λ (a : Certificate). a.day) own ∙ ap (λ i. (f i).day) same
 
-      took : (m : ℕ) → lookupAt m ≡ chosen after kind identity day f n → ((k : ℕ) → m ≡ suc k → nearest ≡ (f k).day) → replaces after kind identity day (ltb 0 m) nearest (f n) ≡ true → Found (f n) ≡ chosen after kind identity day f (suc n)
+      took : (m : ℕ) → lookup_at m ≡ chosen after kind identity day f n → ((k : ℕ) → m ≡ suc k → nearest ≡ (f k).day) → replaces after kind identity day (ltb 0 m) nearest (f n) ≡ true → Found (f n) ≡ chosen after kind identity day f (suc n)
       took zero is on e = rw (both_left (eligible after kind identity day (f n)) _ e, ← is)
       took (suc k) is on e =
           let near = sym (where_found k _) ∙ both_right (eligible after kind identity day (f n)) _ e in
           rw (both_left (eligible after kind identity day (f n)) _ e, ← is, ← on k refl, near)
 
   -- .. or does not
-  pub best-kept :
+  pub best_kept :
       (n : ℕ) {best nearest : ℕ} {c : Certificate} {test : Bool}
       → Best n best nearest
       → c ≡ f n
@@ -69,13 +69,13 @@ module _ (after : Bool) (kind : ℕ) (identity : Identity) (day : ℕ) (f : ℕ 
       → test ≡ false
       → Best (n + 1) best nearest
   unfolding chosen keep
-  best-kept n {best} {nearest} {c} b own t left =
+  best_kept n {best} {nearest} {c} b own t left =
       record { within = omega (arith, b.within); is = rw (add-one n) (kept best b.is b.dated (eligible after kind identity day (f n)) refl tests); dated = b.dated }
     where
       tests : replaces after kind identity day (ltb 0 best) nearest (f n) ≡ false
       tests = ap (replaces after kind identity day (ltb 0 best) nearest) (sym own) ∙ sym t ∙ left
 
-      kept : (m : ℕ) → lookupAt m ≡ chosen after kind identity day f n → ((k : ℕ) → m ≡ suc k → nearest ≡ (f k).day) → (e : Bool) → eligible after kind identity day (f n) ≡ e → (e && (not (ltb 0 m) || nearer after nearest (f n).day)) ≡ false → lookupAt m ≡ chosen after kind identity day f (suc n)
+      kept : (m : ℕ) → lookup_at m ≡ chosen after kind identity day f n → ((k : ℕ) → m ≡ suc k → nearest ≡ (f k).day) → (e : Bool) → eligible after kind identity day (f n) ≡ e → (e && (not (ltb 0 m) || nearer after nearest (f n).day)) ≡ false → lookup_at m ≡ chosen after kind identity day f (suc n)
       kept m is on false not_so e = rw not_so is
       kept zero is on true so e = absurd (true≢false e)
       kept (suc k) is on true so e =

@@ -10,7 +10,7 @@ use lib.Seq.{length-take-le, take-suc, take_all, take_at}
 use native.Mathlib.Nat.{add-zero, add_assoc, eq-or-lt_of_le, le_antisymm, le_of_suc-le-suc, lt-suc_self, lt_trans}
 use native.Mathlib.Numerals.{add-one}
 use Rattle.output.specs.Splice.{spliced}
-use Rattle.output.proofs.Splice.{length_spliced, spliced_none, spliced-more}
+use Rattle.output.proofs.Splice.{length_spliced, spliced_none, spliced_more}
 use Rattle.characters.specs.Numbers.{decimal}
 use Rattle.output.specs.Bytes.{joined}
 use Rattle.characters.specs.Writing.{Room, Wrote}
@@ -26,7 +26,7 @@ wrote_more {old} {at} {a} {b} {out} {out'} {next} {next'} v w room =
     let sum : length (a ++ b) ≡ length a + length b = length-append a b in
     let fits : at + length a + length b ≤ length old = omega arith in
     record {
-      is = w.is ∙ rw (v.is, v.after) (spliced-more old at a b fits);
+      is = w.is ∙ rw (v.is, v.after) (spliced_more old at a b fits);
       after = omega (arith, v.after, w.after);
       kept = w.kept ∙ v.kept;
     }
@@ -100,23 +100,23 @@ module _ {old : List ℕ} {at : ℕ} (a b c d : List ℕ) (room : Room old at (a
   two : Room old at (a ++ b)
   two = room_front (a ++ b) c three
 
-  pub room-first : Room old at a
-  room-first = room_front a b two
+  pub room_first : Room old at a
+  room_first = room_front a b two
 
   module _ {o : List ℕ} {p : ℕ} (u : Wrote old at a o p) where
-    pub room-second : Room o p b
-    room-second = room_behind b u two
+    pub room_second : Room o p b
+    room_second = room_behind b u two
 
     module _ {o₂ : List ℕ} {p₂ : ℕ} (v : Wrote o p b o₂ p₂) where
-      pub room-third : Room o₂ p₂ c
-      room-third = room_behind c (wrote_more u v two) three
+      pub room_third : Room o₂ p₂ c
+      room_third = room_behind c (wrote_more u v two) three
 
       module _ {o₃ : List ℕ} {p₃ : ℕ} (w : Wrote o₂ p₂ c o₃ p₃) where
-        pub room-fourth : Room o₃ p₃ d
-        room-fourth = room_behind d (wrote_more (wrote_more u v two) w three) room
+        pub room_fourth : Room o₃ p₃ d
+        room_fourth = room_behind d (wrote_more (wrote_more u v two) w three) room
 
-        pub wrote-four : {o₄ : List ℕ} {p₄ : ℕ} → Wrote o₃ p₃ d o₄ p₄ → Wrote old at (a ++ b ++ c ++ d) o₄ p₄
-        wrote-four x = wrote_more (wrote_more (wrote_more u v two) w three) x room
+        pub wrote_four : {o₄ : List ℕ} {p₄ : ℕ} → Wrote o₃ p₃ d o₄ p₄ → Wrote old at (a ++ b ++ c ++ d) o₄ p₄
+        wrote_four x = wrote_more (wrote_more (wrote_more u v two) w three) x room
 
 -- and a fifth
 module _ {old : List ℕ} {at : ℕ} (a b c d e : List ℕ) (room : Room old at (a ++ b ++ c ++ d ++ e)) where
@@ -124,11 +124,11 @@ module _ {old : List ℕ} {at : ℕ} (a b c d e : List ℕ) (room : Room old at 
   four = room_front (a ++ b ++ c ++ d) e room
 
   module _ {o o₂ o₃ o₄ : List ℕ} {p p₂ p₃ p₄ : ℕ} (u : Wrote old at a o p) (v : Wrote o p b o₂ p₂) (w : Wrote o₂ p₂ c o₃ p₃) (x : Wrote o₃ p₃ d o₄ p₄) where
-    pub room-fifth : Room o₄ p₄ e
-    room-fifth = room_behind e (wrote-four a b c d four u v w x) room
+    pub room_fifth : Room o₄ p₄ e
+    room_fifth = room_behind e (wrote_four a b c d four u v w x) room
 
-    pub wrote-five : {o₅ : List ℕ} {p₅ : ℕ} → Wrote o₄ p₄ e o₅ p₅ → Wrote old at (a ++ b ++ c ++ d ++ e) o₅ p₅
-    wrote-five y = wrote_more (wrote-four a b c d four u v w x) y room
+    pub wrote_five : {o₅ : List ℕ} {p₅ : ℕ} → Wrote o₄ p₄ e o₅ p₅ → Wrote old at (a ++ b ++ c ++ d ++ e) o₅ p₅
+    wrote_five y = wrote_more (wrote_four a b c d four u v w x) y room
 
 -- of two texts, whichever it is
 pub either_short : (test : Bool) (a b : List ℕ) (n : ℕ) → length a ≤ n → length b ≤ n → length (cond test a b) ≤ n
@@ -168,9 +168,9 @@ joined_all text {n} {i} {old} {at} {out} {next} w past end = subst (λ m. Wrote 
 
 -- i of n are written, and there is room for all: room for the next one, and the next one written
 module _ (text : ℕ → List ℕ) {n i : ℕ} {old : List ℕ} {at : ℕ} {out : List ℕ} {next : ℕ} (w : Wrote old at (joined text i) out next) (room : Room old at (joined text n)) (inside : i < n) where
-  pub joined-room : Room out next (text i)
-  joined-room = record { fits = omega (arith, room.fits, joined_length text i, joined_grows text (suc i) n inside, w.after, w.kept) }
+  pub joined_room : Room out next (text i)
+  joined_room = record { fits = omega (arith, room.fits, joined_length text i, joined_grows text (suc i) n inside, w.after, w.kept) }
 
-  pub joined-more : {out' : List ℕ} {next' : ℕ} → Wrote out next (text i) out' next' → Wrote old at (joined text (i + 1)) out' next'
+  pub joined_more : {out' : List ℕ} {next' : ℕ} → Wrote out next (text i) out' next' → Wrote old at (joined text (i + 1)) out' next'
   unfolding joined
-  joined-more w' = rw (add-one i) (wrote_more w w' (record { fits = omega (arith, room.fits, joined_grows text (suc i) n inside) }))
+  joined_more w' = rw (add-one i) (wrote_more w w' (record { fits = omega (arith, room.fits, joined_grows text (suc i) n inside) }))

@@ -155,8 +155,8 @@ module _ (after : Bool) (kind : ℕ) (identity : Identity) (day : ℕ) (f : ℕ 
       step false e a = passed n e a
 
   -- A certificate is missing exactly if none of the first n is of that kind, maker, serial and letter and so dated
-  pub chosen-nothing : (n : ℕ) → (chosen after kind identity day f n ≡ Nothing) ↔ NoneSoDated after kind identity day f n
-  chosen-nothing n = (none (answer n), missing (answer n))
+  pub chosen_nothing : (n : ℕ) → (chosen after kind identity day f n ≡ Nothing) ↔ NoneSoDated after kind identity day f n
+  chosen_nothing n = (none (answer n), missing (answer n))
     where
       none : Answer n (chosen after kind identity day f n) → chosen after kind identity day f n ≡ Nothing → NoneSoDated after kind identity day f n
       none (inl (is, h)) e = h
@@ -168,12 +168,12 @@ module _ (after : Bool) (kind : ℕ) (identity : Identity) (day : ℕ) (f : ℕ 
           absurd (none best.index best.inside (rw best.there best.eligible))
 
   -- What is found is one of the first n, of that kind, maker, serial and letter, so dated, and no other so dated is nearer
-  pub chosen-found : (n : ℕ) (c : Certificate) → chosen after kind identity day f n ≡ Found c → Nearest after kind identity day f n c
-  chosen-found n c e = is-nearest (answer n)
+  pub chosen_found : (n : ℕ) (c : Certificate) → chosen after kind identity day f n ≡ Found c → Nearest after kind identity day f n c
+  chosen_found n c e = is_nearest (answer n)
     where
-      is-nearest : Answer n (chosen after kind identity day f n) → Nearest after kind identity day f n c
-      is-nearest (inl (is, h)) = absurd (found_something (sym e ∙ is))
-      is-nearest (inr (b, (is, best))) =
+      is_nearest : Answer n (chosen after kind identity day f n) → Nearest after kind identity day f n c
+      is_nearest (inl (is, h)) = absurd (found_something (sym e ∙ is))
+      is_nearest (inr (b, (is, best))) =
           let same : b ≡ c = cc in
           rw same at best
 
@@ -187,12 +187,12 @@ module _ (after : Bool) (kind : ℕ) (identity : Identity) (day : ℕ) (f : ℕ 
       (j, (inside, same ∙ there))
 
   -- so a choice that finds nothing in the second finds nothing in the first
-  nothing-either : Included kind identity f n g m → chosen after kind identity day g m ≡ Nothing → chosen after kind identity day f n ≡ Nothing
-  nothing-either within e =
-      (chosen-nothing after kind identity day f n).1
+  nothing_either : Included kind identity f n g m → chosen after kind identity day g m ≡ Nothing → chosen after kind identity day f n ≡ Nothing
+  nothing_either within e =
+      (chosen_nothing after kind identity day f n).1
       (λ i l h.
       let (j, (inside, same)) = within.held i l h.is in
-      (chosen-nothing after kind identity day g m).0 e j inside (rw same h))
+      (chosen_nothing after kind identity day g m).0 e j inside (rw same h))
 
 -- Only the certificates of that kind, maker, serial and letter count, in whatever order and among whatever others
 module _ (after : Bool) (kind : ℕ) (identity : Identity) (day : ℕ) (f : ℕ → Certificate) (n : ℕ) (g : ℕ → Certificate) (m : ℕ) where
@@ -214,23 +214,23 @@ module _ (after : Bool) (kind : ℕ) (identity : Identity) (day : ℕ) (f : ℕ 
       (rw (c-there, i-there) day-same) in
       sym c-there ∙ ap f index_same ∙ i-there
 
-  pub chosen-same-members : Unique f n → SameMembers kind identity f n g m → chosen after kind identity day f n ≡ chosen after kind identity day g m
-  chosen-same-members unique same = go _ _ refl refl
+  pub chosen_same_members : Unique f n → SameMembers kind identity f n g m → chosen after kind identity day f n ≡ chosen after kind identity day g m
+  chosen_same_members unique same = go _ _ refl refl
     where
       go : (a b : Lookup) → chosen after kind identity day f n ≡ a → chosen after kind identity day g m ≡ b → a ≡ b
       go Nothing Nothing d e = refl
-      go Nothing (Found c) d e = sym (nothing-either after kind identity day g m f n same.back d) ∙ e
-      go (Found c) Nothing d e = sym d ∙ nothing-either after kind identity day f n g m same.into e
+      go Nothing (Found c) d e = sym (nothing_either after kind identity day g m f n same.back d) ∙ e
+      go (Found c) Nothing d e = sym d ∙ nothing_either after kind identity day f n g m same.into e
       go (Found b) (Found c) d e =
-          ap Found (one_found unique same b c (chosen-found after kind identity day f n b d) (chosen-found after kind identity day g m c e))
+          ap Found (one_found unique same b c (chosen_found after kind identity day f n b d) (chosen_found after kind identity day g m c e))
 
 -- Demand 3 for certificates: a run's certificates hang on those of its own meter, pitot tube and nozzle alone
 pub chosen_for_same_members : (h : RunHeader) (f : ℕ → Certificate) (n : ℕ) (g : ℕ → Certificate) (m : ℕ) → Unique f n → SameForRun h f n g m → chosen_for f n h ≡ chosen_for g m h
 unfolding chosen_for
 chosen_for_same_members h f n g m unique same =
     λ i. record {
-      before = chosen-same-members false meter h.meter h.day f n g m unique same.meter i;
-      after = chosen-same-members true meter h.meter h.day f n g m unique same.meter i;
-      pitot = chosen-same-members false pitot h.pitot h.day f n g m unique same.pitot i;
-      nozzle = chosen-same-members false nozzle h.nozzle h.day f n g m unique same.nozzle i;
+      before = chosen_same_members false meter h.meter h.day f n g m unique same.meter i;
+      after = chosen_same_members true meter h.meter h.day f n g m unique same.meter i;
+      pitot = chosen_same_members false pitot h.pitot h.day f n g m unique same.pitot i;
+      nozzle = chosen_same_members false nozzle h.nozzle h.day f n g m unique same.nozzle i;
     }

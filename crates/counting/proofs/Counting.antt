@@ -10,7 +10,7 @@ use Rattle.opening.specs.Opening.{run_count_of}
 use Rattle.parts.specs.Values.{run_at}
 use Rattle.job.specs.declared.Job.{Job}
 use Rattle.job.specs.Reading.{read_job, ClearJob}
-use Rattle.job.proofs.ReadJobs.{count-of-runs, start_of, read_refused}
+use Rattle.job.proofs.ReadJobs.{count_of_runs, start_of, read_refused}
 use Rattle.output.specs.declared.Answer.TheVariants.{Done, Refused}
 use Rattle.counting.specs.Counting.{count_answer, number_answer}
 
@@ -20,7 +20,7 @@ count_refused s e t = rw (read_refused s e t)
 
 pub count_done : (s : List ℕ) (j : Job) → ClearJob s j → Done j.runs ≡ count_answer s
 unfolding count_answer
-count_done s j ok = rw ok.clear (ap Done (count-of-runs s j ok))
+count_done s j ok = rw ok.clear (ap Done (count_of_runs s j ok))
 
 pub number_refused : (s : List ℕ) {j : Job} {n p : ℕ} (index : ℕ) → j ≡ read_job s → j.trouble ≡ At n p → Refused n p ≡ number_answer s index
 unfolding number_answer
@@ -28,11 +28,11 @@ number_refused s index e t = rw (read_refused s e t)
 
 pub number_past : (s : List ℕ) (j : Job) (index : ℕ) → ClearJob s j → j.runs ≤ index → Refused 10 0 ≡ number_answer s index
 unfolding number_answer
-number_past s j index ok past = rw (ok.clear, le-leb _ _ (rw (count-of-runs s j ok) at past))
+number_past s j index ok past = rw (ok.clear, le-leb _ _ (rw (count_of_runs s j ok) at past))
 
 pub number_done : (s : List ℕ) (j : Job) (index : ℕ) {t : List ℕ} {n : ℕ} → ClearJob s j → index < j.runs → t ≡ drop (get_or j.starts index 0) s → n ≡ u16_at t 0 → Done n ≡ number_answer s index
 unfolding number_answer run_at
 number_done s j index ok inside et en =
-    let within : index < run_count_of s = rw (count-of-runs s j ok) at inside in
+    let within : index < run_count_of s = rw (count_of_runs s j ok) at inside in
     let start = start_of s j ok index within in
     rw (ok.clear, lt-leb _ _ within) (ap Done (en ∙ ap (λ u. u16_at u 0) (et ∙ ap (λ a. drop a s) start)))

@@ -31,7 +31,7 @@ use Rattle.traverse.specs.Layout.{most_distances, round_layout, rectangle_layout
 use Rattle.distances.proofs.PositionLaws.{points_of}
 use Rattle.distances.proofs.RoundLaws.{round_ok}
 use Rattle.distances.proofs.RectangleLaws.{rectangle_ok, grid_ok}
-use Rattle.traverse.proofs.Theorems.{round_length, rectangle-length}
+use Rattle.traverse.proofs.Theorems.{round_length, rectangle_length}
 use Rattle.writing.specs.Bytes.{sheet_size, finding_size}
 use Rattle.printing.specs.Jobs.{job_text}
 use Rattle.printing.proofs.Lengths.{text_most}
@@ -85,19 +85,19 @@ success_told count false few = omega arith
 
 reduce_told : (fig : Figure) (s : List ℕ) (run lines findings : ℕ) → Tellable (answer_of (outcome fig s run lines findings))
 unfolding outcome handed answer_of
-reduce_told fig s run lines findings = by-trouble (job_trouble s) refl
+reduce_told fig s run lines findings = by_trouble (job_trouble s) refl
   where
-    by-room : (r : Reduced) (short : Bool) → r.findings.count ≤ most_findings → Tellable (answer_of (cond short (refused 9 0) (reduced r)))
-    by-room r true few = (lit≤ tt, lit< tt)
-    by-room r false few = success_told r.findings.count r.accepted few
+    by_room : (r : Reduced) (short : Bool) → r.findings.count ≤ most_findings → Tellable (answer_of (cond short (refused 9 0) (reduced r)))
+    by_room r true few = (lit≤ tt, lit< tt)
+    by_room r false few = success_told r.findings.count r.accepted few
 
     by_number : job_trouble s ≡ Clear → (which : Which) → run_named (run_of s) run (run_count_of s) ≡ which → Tellable (answer_of (of_run fig s which lines findings))
     by_number clear NoRun e = (lit≤ tt, lit< tt)
-    by_number clear (Index k) e = by-room (reduced_run fig s k) (ltb lines sheet_size || ltb findings (finding_size * (reduced_run fig s k).findings.count)) (found_few fig s clear k (found_inside (run_of s) run (run_count_of s) e))
+    by_number clear (Index k) e = by_room (reduced_run fig s k) (ltb lines sheet_size || ltb findings (finding_size * (reduced_run fig s k).findings.count)) (found_few fig s clear k (found_inside (run_of s) run (run_count_of s) e))
 
-    by-trouble : (t : Trouble) → job_trouble s ≡ t → Tellable (answer_of (of_trouble t fig s run lines findings))
-    by-trouble (At n p) e = reader_told s e
-    by-trouble Clear e = by_number e (run_named (run_of s) run (run_count_of s)) refl
+    by_trouble : (t : Trouble) → job_trouble s ≡ t → Tellable (answer_of (of_trouble t fig s run lines findings))
+    by_trouble (At n p) e = reader_told s e
+    by_trouble Clear e = by_number e (run_named (run_of s) run (run_count_of s)) refl
 
 count_told : (s : List ℕ) → Tellable (count_answer s)
 unfolding count_answer
@@ -123,43 +123,43 @@ text_told : (fig : Figure) (s : List ℕ) (room : ℕ) → Tellable (printing_an
 unfolding printing if_fits printing_answer
 text_told fig s room = go (job_trouble s) refl
   where
-    by-room : (short : Bool) → Tellable (printing_answer (cond short (unprinted 9 0) (printed (job_text fig s))))
-    by-room true = (lit≤ tt, lit< tt)
-    by-room false = omega (arith, text_most fig s)
+    by_room : (short : Bool) → Tellable (printing_answer (cond short (unprinted 9 0) (printed (job_text fig s))))
+    by_room true = (lit≤ tt, lit< tt)
+    by_room false = omega (arith, text_most fig s)
 
     go : (t : Trouble) → job_trouble s ≡ t → Tellable (printing_answer (unless_trouble t fig s room))
     go (At n p) e = reader_told s e
-    go Clear e = by-room (ltb room (length (job_text fig s)))
+    go Clear e = by_room (ltb room (length (job_text fig s)))
 
 explain_told : (form : Form) (fig : Figure) (s : List ℕ) (run rule place room : ℕ) → Tellable (printing_answer (explaining form fig s run rule place room))
 unfolding explaining of_explained if_fits printing_answer
-explain_told form fig s run rule place room = by-trouble (job_trouble s) refl
+explain_told form fig s run rule place room = by_trouble (job_trouble s) refl
   where
-    by-room : (text : List ℕ) (short : Bool) → length text ≤ 1024 → Tellable (printing_answer (cond short (unprinted 9 0) (printed text)))
-    by-room text true few = (lit≤ tt, lit< tt)
-    by-room text false few = omega (arith, few)
+    by_room : (text : List ℕ) (short : Bool) → length text ≤ 1024 → Tellable (printing_answer (cond short (unprinted 9 0) (printed text)))
+    by_room text true few = (lit≤ tt, lit< tt)
+    by_room text false few = omega (arith, few)
 
-    by-finding : (x : Explained) → Tellable (printing_answer (of_explained form x room))
-    by-finding NoFinding = (lit≤ tt, lit< tt)
-    by-finding (Because e) = by-room (written form e) (ltb room (length (written form e))) (written_short form e)
+    by_finding : (x : Explained) → Tellable (printing_answer (of_explained form x room))
+    by_finding NoFinding = (lit≤ tt, lit< tt)
+    by_finding (Because e) = by_room (written form e) (ltb room (length (written form e))) (written_short form e)
 
     by_number : (which : Which) → Tellable (printing_answer (of_named_run form fig s which rule place room))
     by_number NoRun = (lit≤ tt, lit< tt)
-    by_number (Index k) = by-finding (explained_run fig s k rule place)
+    by_number (Index k) = by_finding (explained_run fig s k rule place)
 
-    by-trouble : (t : Trouble) → job_trouble s ≡ t → Tellable (printing_answer (unless_job_trouble form t fig s run rule place room))
-    by-trouble (At n p) e = reader_told s e
-    by-trouble Clear e = by_number (run_named (run_of s) run (run_count_of s))
+    by_trouble : (t : Trouble) → job_trouble s ≡ t → Tellable (printing_answer (unless_job_trouble form t fig s run rule place room))
+    by_trouble (At n p) e = reader_told s e
+    by_trouble Clear e = by_number (run_named (run_of s) run (run_count_of s))
 
 -- a layout of no more distances than there may be
 layout_told : (fits : Bool) (ds : List ℕ) (room : ℕ) → (fits ≡ true → length ds ≤ most_distances) → Tellable (layout_answer (layout_outcome fits ds room))
 unfolding layout_outcome lent_outcome layout_answer
 layout_told false ds room few = (lit≤ tt, lit< tt)
-layout_told true ds room few = by-room (leb (distance_size * length ds) room)
+layout_told true ds room few = by_room (leb (distance_size * length ds) room)
   where
-    by-room : (enough : Bool) → Tellable (layout_answer (if_room enough ds))
-    by-room true = omega (arith, few refl)
-    by-room false = (lit≤ tt, lit< tt)
+    by_room : (enough : Bool) → Tellable (layout_answer (if_room enough ds))
+    by_room true = omega (arith, few refl)
+    by_room false = (lit≤ tt, lit< tt)
 
 round_told : (points diameter nozzle room : ℕ) → Tellable (layout_answer (round_outcome points diameter nozzle room))
 unfolding round_outcome
@@ -173,7 +173,7 @@ rectangle_told points first second room =
     layout_told _ (rectangle_layout points first second) room
     (λ fits.
     let cells = grid_ok points (rectangle_ok points first second fits).points in
-    omega (arith, rectangle-length points first second fits, mul-le-mul cells.rows_few cells.columns_few, cells.cells))
+    omega (arith, rectangle_length points first second fits, mul-le-mul cells.rows_few cells.columns_few, cells.cells))
 
 -- by what is given for a figure
 reduce_by_told : (l : Lent) (s : List ℕ) (run lines findings : ℕ) (t : Trouble) → (supplied l).trouble ≡ t → Tellable (answer_of (unless_bad_figure t (outcome (figure_in l) s run lines findings)))

@@ -24,7 +24,7 @@ use Rattle.heads.specs.Values.{certificate, header, spare_byte, header_at, certi
 use Rattle.parts.specs.Values.{point_at, segment_at, point_place, segment_place, point_total, segment_total, run_end}
 use Rattle.heads.specs.Rows.{certificate_rows, header_rows}
 use Rattle.parts.specs.Rows.{point_rows, segment_rows, points_trouble, segments_trouble, weighings_trouble}
-use Rattle.fields.proofs.RecordTrouble.{whole-at}
+use Rattle.fields.proofs.RecordTrouble.{whole_at}
 use Rattle.opening.specs.Opening.{version_of, certificate_count_of, run_count_of, file_trouble}
 use Rattle.opening.proofs.HowMany.{few}
 use Rattle.job.specs.Places.{next_start, run_start, longest_run, longest_job}
@@ -71,9 +71,9 @@ module _ (p a b : List ℕ) (whole : length p ≡ longest_job) (more : 1 ≤ len
   record_same {size} {f} front at h =
       let left : size ≤ length (drop at (p ++ a)) = omega (arith, length-drop at (p ++ a), length-append p a) in
       let right : size ≤ length (drop at (p ++ b)) = omega (arith, length-drop at (p ++ b), length-append p b) in
-      sym (whole-at (p ++ a) at size _ refl left refl refl)
+      sym (whole_at (p ++ a) at size _ refl left refl refl)
       ∙ ap (λ (rows : List Row). from at (checks Clear rows)) (same_at front at h)
-      ∙ whole-at (p ++ b) at size _ refl right refl refl
+      ∙ whole_at (p ++ b) at size _ refl right refl refl
 
   row_same :
       {size : ℕ} {f : List ℕ → List Row}
@@ -90,69 +90,69 @@ module _ (p a b : List ℕ) (whole : length p ≡ longest_job) (more : 1 ≤ len
 
   -- The header
 
-  file-same : file_trouble (p ++ a) ≡ file_trouble (p ++ b)
-  file-same = record_same file_rows_front 0 (lit≤ tt)
+  file_same : file_trouble (p ++ a) ≡ file_trouble (p ++ b)
+  file_same = record_same file_rows_front 0 (lit≤ tt)
 
-  version-same : version_of (p ++ a) ≡ version_of (p ++ b)
-  version-same = same_at version_front 0 (lit≤ tt)
+  version_same : version_of (p ++ a) ≡ version_of (p ++ b)
+  version_same = same_at version_front 0 (lit≤ tt)
 
   -- the version that both say
   abbrev v : Version
   v = version_of (p ++ a)
 
-  certificate-count-same : certificate_count_of (p ++ a) ≡ certificate_count_of (p ++ b)
-  certificate-count-same = same_at certificate_count_front 0 (lit≤ tt)
+  certificate_count_same : certificate_count_of (p ++ a) ≡ certificate_count_of (p ++ b)
+  certificate_count_same = same_at certificate_count_front 0 (lit≤ tt)
 
-  run-count-same : run_count_of (p ++ a) ≡ run_count_of (p ++ b)
-  run-count-same = same_at run_count_front 0 (lit≤ tt)
+  run_count_same : run_count_of (p ++ a) ≡ run_count_of (p ++ b)
+  run_count_same = same_at run_count_front 0 (lit≤ tt)
 
   -- Certificates
 
-  certificate-room : (k : ℕ) → k < greatest_certificate_count → certificate_place v k + certificate_size v ≤ longest_job
-  certificate-room k h = omega (arith, few v k, few v 1)
+  certificate_room : (k : ℕ) → k < greatest_certificate_count → certificate_place v k + certificate_size v ≤ longest_job
+  certificate_room k h = omega (arith, few v k, few v 1)
 
-  certificate-same : (k : ℕ) → k < greatest_certificate_count → certificate_of (p ++ a) k ≡ certificate_of (p ++ b) k
-  certificate-same k h =
-      same_at (certificate_front v) (certificate_place v k) (certificate-room k h)
-      ∙ ap (λ (v : Version). certificate v (drop (certificate_place v k) (p ++ b))) version-same
+  certificate_same : (k : ℕ) → k < greatest_certificate_count → certificate_of (p ++ a) k ≡ certificate_of (p ++ b) k
+  certificate_same k h =
+      same_at (certificate_front v) (certificate_place v k) (certificate_room k h)
+      ∙ ap (λ (v : Version). certificate v (drop (certificate_place v k) (p ++ b))) version_same
 
-  entry-same : (k : ℕ) → k < greatest_certificate_count → entry_trouble (p ++ a) k ≡ entry_trouble (p ++ b) k
-  entry-same k h =
-      let own_same = record_same (front_of (certificate_rows v) (certificate_front v)) (certificate_place v k) (certificate-room k h) in
+  entry_same : (k : ℕ) → k < greatest_certificate_count → entry_trouble (p ++ a) k ≡ entry_trouble (p ++ b) k
+  entry_same k h =
+      let own_same = record_same (front_of (certificate_rows v) (certificate_front v)) (certificate_place v k) (certificate_room k h) in
       first_same _ _ _
-      (own_same ∙ ap (λ (v : Version). record_trouble (p ++ b) (certificate_place v k) (certificate_size v) (certificate_rows v (certificate v (drop (certificate_place v k) (p ++ b))))) version-same)
+      (own_same ∙ ap (λ (v : Version). record_trouble (p ++ b) (certificate_place v k) (certificate_size v) (certificate_rows v (certificate v (drop (certificate_place v k) (p ++ b))))) version_same)
       (λ own.
-      let earlier = any_ext _ _ k (λ j l. ap₂ same_certificate (certificate-same j (lt_trans l h)) (certificate-same k h)) in
-      ap₂ (λ (stood : Bool) (v : Version). trouble_unless (not stood) repeated (certificate_place v k)) earlier version-same)
+      let earlier = any_ext _ _ k (λ j l. ap₂ same_certificate (certificate_same j (lt_trans l h)) (certificate_same k h)) in
+      ap₂ (λ (stood : Bool) (v : Version). trouble_unless (not stood) repeated (certificate_place v k)) earlier version_same)
 
-  certificates-same : file_trouble (p ++ a) ≡ Clear → certificates_trouble (p ++ a) ≡ certificates_trouble (p ++ b)
-  certificates-same file =
+  certificates_same : file_trouble (p ++ a) ≡ Clear → certificates_trouble (p ++ a) ≡ certificates_trouble (p ++ b)
+  certificates_same file =
       let held = certificate_count_lem (p ++ a) file in
-      up_same _ _ _ (λ k h clear. entry-same k (omega arith)) ∙ ap (up_to (entry_trouble (p ++ b))) certificate-count-same
+      up_same _ _ _ (λ k h clear. entry_same k (omega arith)) ∙ ap (up_to (entry_trouble (p ++ b))) certificate_count_same
 
   -- Runs
 
-  header-same : (start : ℕ) → start + longest_run ≤ longest_job → header_at (p ++ a) start ≡ header_at (p ++ b) start
-  header-same start h =
+  header_same : (start : ℕ) → start + longest_run ≤ longest_job → header_at (p ++ a) start ≡ header_at (p ++ b) start
+  header_same start h =
       same_at (header_front v) start (omega (arith, few v 3))
-      ∙ ap (λ (v : Version). header v (drop start (p ++ b))) version-same
+      ∙ ap (λ (v : Version). header v (drop start (p ++ b))) version_same
 
-  point-total-same : (start : ℕ) (n : Counts) → start + longest_run ≤ longest_job → Few n → point_total (p ++ a) start n ≡ point_total (p ++ b) start n
-  point-total-same start n h parts =
+  point_total_same : (start : ℕ) (n : Counts) → start + longest_run ≤ longest_job → Few n → point_total (p ++ a) start n ≡ point_total (p ++ b) start n
+  point_total_same start n h parts =
       sum_ext _ _ n.points
       (λ i l.
       same_at (front_of (λ (x : Point). x.seconds) point_front) (point_place v start i) (omega (arith, few v 3, parts.points))
-      ∙ ap (λ (v : Version). (point_at (p ++ b) (point_place v start i)).seconds) version-same)
+      ∙ ap (λ (v : Version). (point_at (p ++ b) (point_place v start i)).seconds) version_same)
 
-  segment-total-same : (start : ℕ) (n : Counts) → start + longest_run ≤ longest_job → Few n → segment_total (p ++ a) start n ≡ segment_total (p ++ b) start n
-  segment-total-same start n h parts =
+  segment_total_same : (start : ℕ) (n : Counts) → start + longest_run ≤ longest_job → Few n → segment_total (p ++ a) start n ≡ segment_total (p ++ b) start n
+  segment_total_same start n h parts =
       sum_ext _ _ n.segments
       (λ i l.
       same_at (front_of (λ (x : Segment). x.seconds) segment_front) (segment_place v start n i) (omega (arith, few v 3, parts.points, parts.segments))
-      ∙ ap (λ (v : Version). (segment_at (p ++ b) (segment_place v start n i)).seconds) version-same)
+      ∙ ap (λ (v : Version). (segment_at (p ++ b) (segment_place v start n i)).seconds) version_same)
 
-  seconds-same : (start : ℕ) (n : Counts) → start + longest_run ≤ longest_job → Few n → good_seconds (p ++ a) start n ≡ good_seconds (p ++ b) start n
-  seconds-same start n h parts = rw (point-total-same start n h parts, segment-total-same start n h parts)
+  seconds_same : (start : ℕ) (n : Counts) → start + longest_run ≤ longest_job → Few n → good_seconds (p ++ a) start n ≡ good_seconds (p ++ b) start n
+  seconds_same start n h parts = rw (point_total_same start n h parts, segment_total_same start n h parts)
 
   parts_same : (start : ℕ) (n : Counts) → start + longest_run ≤ longest_job → Few n → parts_trouble (p ++ a) start n ≡ parts_trouble (p ++ b) start n
   unfolding parts_trouble
@@ -161,43 +161,43 @@ module _ (p a b : List ℕ) (whole : length p ≡ longest_job) (more : 1 ≤ len
       let points = row_same (front_of point_rows point_front) (start + run_header_size v) n.points (omega (arith, parts.points)) in
       let segments = row_same (front_of segment_rows segment_front) (point_place v start n.points) n.segments (omega (arith, parts.points, parts.segments)) in
       let weighings = row_same weighing_rows_front (segment_place v start n n.segments) n.weighings (omega (arith, parts.points, parts.segments, parts.weighings)) in
-      first_same _ _ _ (points ∙ ap (λ (v : Version). points_trouble (p ++ b) (start + run_header_size v) n.points) version-same)
+      first_same _ _ _ (points ∙ ap (λ (v : Version). points_trouble (p ++ b) (start + run_header_size v) n.points) version_same)
       (λ clear.
-      first_same _ _ _ (segments ∙ ap (λ (v : Version). segments_trouble (p ++ b) (point_place v start n.points) n.segments) version-same)
+      first_same _ _ _ (segments ∙ ap (λ (v : Version). segments_trouble (p ++ b) (point_place v start n.points) n.segments) version_same)
       (λ clear.
-      first_same _ _ _ (weighings ∙ ap (λ (v : Version). weighings_trouble (p ++ b) (segment_place v start n n.segments) n.weighings) version-same)
-      (λ clear. ap (λ (ok : Bool). trouble_unless ok wrong_seconds start) (seconds-same start n h parts))))
+      first_same _ _ _ (weighings ∙ ap (λ (v : Version). weighings_trouble (p ++ b) (segment_place v start n n.segments) n.weighings) version_same)
+      (λ clear. ap (λ (ok : Bool). trouble_unless ok wrong_seconds start) (seconds_same start n h parts))))
 
-  run-same : (start lower : ℕ) → start + longest_run ≤ longest_job → run_trouble (p ++ a) start lower ≡ run_trouble (p ++ b) start lower
+  run_same : (start lower : ℕ) → start + longest_run ≤ longest_job → run_trouble (p ++ a) start lower ≡ run_trouble (p ++ b) start lower
   unfolding run_trouble
-  run-same start lower h =
+  run_same start lower h =
       let own_same = record_same (header_rows_front v) start (omega (arith, few v 3)) in
       first_same _ _ _
-      (own_same ∙ ap (λ (v : Version). record_trouble (p ++ b) start (run_header_size v) (header_rows v (header v (drop start (p ++ b))) (spare_byte v (drop start (p ++ b))))) version-same)
+      (own_same ∙ ap (λ (v : Version). record_trouble (p ++ b) start (run_header_size v) (header_rows v (header v (drop start (p ++ b))) (spare_byte v (drop start (p ++ b))))) version_same)
       (λ own.
       ap (first _) (parts_same start (header_at (p ++ a) start).counts h (few_parts (p ++ a) start own))
-      ∙ ap (λ (x : RunHeader). first (trouble_unless (ltb lower x.number) repeated start) (parts_trouble (p ++ b) start x.counts)) (header-same start h))
+      ∙ ap (λ (x : RunHeader). first (trouble_unless (ltb lower x.number) repeated start) (parts_trouble (p ++ b) start x.counts)) (header_same start h))
 
   -- a run starts at the same place if those before it are clear
   module _ (file : file_trouble (p ++ a) ≡ Clear) where
-    start-room : (k : ℕ) → k < greatest_run_count → runs_trouble (p ++ a) k ≡ Clear → run_start (p ++ a) k + longest_run ≤ longest_job
-    start-room k h clear = omega (arith, start_reach (p ++ a) file k clear)
+    start_room : (k : ℕ) → k < greatest_run_count → runs_trouble (p ++ a) k ≡ Clear → run_start (p ++ a) k + longest_run ≤ longest_job
+    start_room k h clear = omega (arith, start_reach (p ++ a) file k clear)
 
-    start-same : (k : ℕ) → k ≤ greatest_run_count → runs_trouble (p ++ a) k ≡ Clear → run_start (p ++ a) k ≡ run_start (p ++ b) k
+    start_same : (k : ℕ) → k ≤ greatest_run_count → runs_trouble (p ++ a) k ≡ Clear → run_start (p ++ a) k ≡ run_start (p ++ b) k
     unfolding run_start up_to
-    start-same zero h clear = ap₂ certificate_place version-same certificate-count-same
-    start-same (suc k) h clear =
+    start_same zero h clear = ap₂ certificate_place version_same certificate_count_same
+    start_same (suc k) h clear =
         let earlier = clear_left _ _ clear in
-        ap₂ (λ (v : Version) (x : RunHeader). run_end v (run_start (p ++ a) k) x.counts) version-same (header-same (run_start (p ++ a) k) (start-room k h earlier))
-        ∙ ap (next_start (p ++ b)) (start-same k (omega arith) earlier)
+        ap₂ (λ (v : Version) (x : RunHeader). run_end v (run_start (p ++ a) k) x.counts) version_same (header_same (run_start (p ++ a) k) (start_room k h earlier))
+        ∙ ap (next_start (p ++ b)) (start_same k (omega arith) earlier)
 
     number_same : (k : ℕ) → k ≤ greatest_run_count → runs_trouble (p ++ a) k ≡ Clear → number_before (p ++ a) k ≡ number_before (p ++ b) k
     unfolding number_before up_to
     number_same zero h clear = refl
     number_same (suc k) h clear =
         let earlier = clear_left _ _ clear in
-        ap (λ (x : RunHeader). x.number) (header-same (run_start (p ++ a) k) (start-room k h earlier))
-        ∙ ap (λ (start : ℕ). (header_at (p ++ b) start).number) (start-same k (omega arith) earlier)
+        ap (λ (x : RunHeader). x.number) (header_same (run_start (p ++ a) k) (start_room k h earlier))
+        ∙ ap (λ (start : ℕ). (header_at (p ++ b) start).number) (start_same k (omega arith) earlier)
 
     runs_same : runs_trouble (p ++ a) (run_count_of (p ++ a)) ≡ runs_trouble (p ++ b) (run_count_of (p ++ b))
     runs_same =
@@ -206,24 +206,24 @@ module _ (p a b : List ℕ) (whole : length p ≡ longest_job) (more : 1 ≤ len
         (λ k h clear.
         let below : k < greatest_run_count = omega arith in
         let within : k ≤ greatest_run_count = omega arith in
-        run-same (run_start (p ++ a) k) (number_before (p ++ a) k) (start-room k below clear)
-        ∙ ap₂ (run_trouble (p ++ b)) (start-same k within clear) (number_same k within clear))
-        ∙ ap (runs_trouble (p ++ b)) run-count-same
+        run_same (run_start (p ++ a) k) (number_before (p ++ a) k) (start_room k below clear)
+        ∙ ap₂ (run_trouble (p ++ b)) (start_same k within clear) (number_same k within clear))
+        ∙ ap (runs_trouble (p ++ b)) run_count_same
 
     end_same : runs_trouble (p ++ a) (run_count_of (p ++ a)) ≡ Clear → end_trouble (p ++ a) (run_start (p ++ a) (run_count_of (p ++ a))) ≡ end_trouble (p ++ b) (run_start (p ++ b) (run_count_of (p ++ b)))
     end_same clear =
         let many = run_count_lem (p ++ a) file in
         let low = start_reach (p ++ a) file (run_count_of (p ++ a)) clear in
-        let same = start-same (run_count_of (p ++ a)) many clear ∙ ap (run_start (p ++ b)) run-count-same in
+        let same = start_same (run_count_of (p ++ a)) many clear ∙ ap (run_start (p ++ b)) run_count_same in
         left_over_lem (p ++ a) _ (omega (arith, length-append p a))
         ∙ ap (At left_over) same
         ∙ sym (left_over_lem (p ++ b) _ (omega (arith, length-append p b)))
 
-  beyond-same : job_trouble (p ++ a) ≡ job_trouble (p ++ b)
+  beyond_same : job_trouble (p ++ a) ≡ job_trouble (p ++ b)
   unfolding job_trouble
-  beyond-same =
-      first_same _ _ _ file-same
-      (λ file. first_same _ _ _ (certificates-same file) (λ certificates. first_same _ _ _ (runs_same file) (end_same file)))
+  beyond_same =
+      first_same _ _ _ file_same
+      (λ file. first_same _ _ _ (certificates_same file) (λ certificates. first_same _ _ _ (runs_same file) (end_same file)))
 
 -- The first trouble hangs on the bytes of the longest job and one more: where the file goes on ..
 longer : (s : List ℕ) (m : ℕ) → longest_job < m → m < length s → job_trouble (take m s) ≡ job_trouble s
@@ -233,7 +233,7 @@ longer s m h long =
     let cut : length (take m s) ≡ m = length-take-le m s (omega arith) in
     let front : take longest_job (take m s) ≡ p = take-take longest_job m s (omega arith) in
     ap job_trouble (sym (take-append-drop longest_job (take m s)) ∙ ap (λ (q : List ℕ). q ++ drop longest_job (take m s)) front)
-    ∙ beyond-same p (drop longest_job (take m s)) (drop longest_job s) whole (omega (arith, length-drop longest_job (take m s))) (omega (arith, length-drop longest_job s))
+    ∙ beyond_same p (drop longest_job (take m s)) (drop longest_job s) whole (omega (arith, length-drop longest_job (take m s))) (omega (arith, length-drop longest_job s))
     ∙ ap job_trouble (take-append-drop longest_job s)
 
 -- .. and where it does not

@@ -37,12 +37,12 @@ use Rattle.demands.proofs.Printed.{either_way}
 
 module _ (v : Version) (f g : Figure) (r : Run) (ch : Chosen) where
   -- another rule goes by nothing of the figure
-  other-rule : (l : Lines) (rule i : ℕ) → (rule ≡ 9 → ⊥) → broken_at f r ch l rule i ≡ broken_at g r ch l rule i
+  other_rule : (l : Lines) (rule i : ℕ) → (rule ≡ 9 → ⊥) → broken_at f r ch l rule i ≡ broken_at g r ch l rule i
   unfolding beside_of broken_at table ground_of
-  other-rule l rule i other = rw (ne_eqb rule 9 other)
+  other_rule l rule i other = rw (ne_eqb rule 9 other)
 
-  breaks-other : {a b : Figure} (l : Lines) (rule place : ℕ) → ((i : ℕ) → broken_at a r ch l rule i ≡ broken_at b r ch l rule i) → Breaks a r ch l rule place → Breaks b r ch l rule place
-  breaks-other l rule place same b =
+  breaks_other : {a b : Figure} (l : Lines) (rule place : ℕ) → ((i : ℕ) → broken_at a r ch l rule i ≡ broken_at b r ch l rule i) → Breaks a r ch l rule place → Breaks b r ch l rule place
+  breaks_other l rule place same b =
       record {
         first = b.first;
         last = b.last;
@@ -52,13 +52,13 @@ module _ (v : Version) (f g : Figure) (r : Run) (ch : Chosen) where
         broken = sym (same b.index) ∙ b.broken;
       }
 
-  same-minimum : undisturbed r.header.site ≡ true → minimum_points f r.header.site ≡ minimum_points g r.header.site
+  same_minimum : undisturbed r.header.site ≡ true → minimum_points f r.header.site ≡ minimum_points g r.header.site
   unfolding minimum_points
-  same-minimum far = rw far
+  same_minimum far = rw far
 
   same_beside : (l : Lines) → undisturbed r.header.site ≡ true → beside_of f r ch l ≡ beside_of g r ch l
   unfolding beside_of
-  same_beside l far = rw (same-minimum far)
+  same_beside l far = rw (same_minimum far)
 
   same_list : (l : Lines) → undisturbed r.header.site ≡ true → findings v f r ch l ≡ findings v g r ch l
   unfolding findings broken_at
@@ -66,14 +66,14 @@ module _ (v : Version) (f g : Figure) (r : Run) (ch : Chosen) where
       ap (λ b. findings_to v (λ rule i. broken (ground_of (part_of r rule i) b rule)) (places_of r.header.counts) last_rule) (same_beside l far)
 
   -- For every run, certificates and two figures
-  pub only-nine : OnlyNine v f g r ch
+  pub only_nine : OnlyNine v f g r ch
   unfolding worked findings_for
-  only-nine =
+  only_nine =
       record {
         sheet = refl;
         others = λ rule place other. (
-          breaks-other (lines_for v r ch) rule place (λ i. other-rule (lines_for v r ch) rule i other),
-          breaks-other (lines_for v r ch) rule place (λ i. sym (other-rule (lines_for v r ch) rule i other)),
+          breaks_other (lines_for v r ch) rule place (λ i. other_rule (lines_for v r ch) rule i other),
+          breaks_other (lines_for v r ch) rule place (λ i. sym (other_rule (lines_for v r ch) rule i other)),
         );
         undisturbed = λ far. rw (same_list (lines_for v r ch) far);
       }

@@ -36,42 +36,42 @@ use Rattle.demands.proofs.GoodParts.{fixed_trouble, size_some, clear_good, good_
 
 module _ (s : List ℕ) {n p : ℕ} where
   -- what is told of a certificate or a run that is reached is told of the file
-  at-certificate : (k : ℕ) → ReachedCertificate s k → entry_trouble s k ≡ At n p → job_trouble s ≡ At n p
+  at_certificate : (k : ℕ) → ReachedCertificate s k → entry_trouble s k ≡ At n p → job_trouble s ≡ At n p
   unfolding job_trouble
-  at-certificate k r told =
+  at_certificate k r told =
       first_clear _ (good_clear s file_header r.header)
       ∙ first_at _ (sym (stops (entry_trouble s) k (certificate_count_of s) (certificates_clear s k r.earlier) refl told r.inside) ∙ told)
 
-  at-run : (k : ℕ) → ReachedRun s k → run_trouble s (run_start s k) (number_before s k) ≡ At n p → job_trouble s ≡ At n p
+  at_run : (k : ℕ) → ReachedRun s k → run_trouble s (run_start s k) (number_before s k) ≡ At n p → job_trouble s ≡ At n p
   unfolding job_trouble
-  at-run k r told =
+  at_run k r told =
       first_clear _ (good_clear s file_header r.header)
       ∙ first_clear _ (certificates_clear s _ r.certificates)
       ∙ first_at _ (sym (stops (λ i. run_trouble s (run_start s i) (number_before s i)) k (run_count_of s) (runs_clear s k r.earlier) refl told r.inside) ∙ told)
 
-  at-parts : (k : ℕ) → ReachedParts s k → parts_trouble s (run_start s k) (counts_of s k) ≡ At n p → job_trouble s ≡ At n p
+  at_parts : (k : ℕ) → ReachedParts s k → parts_trouble s (run_start s k) (counts_of s k) ≡ At n p → job_trouble s ≡ At n p
   unfolding run_trouble run_at
-  at-parts k r told =
-      at-run k r.run
+  at_parts k r told =
+      at_run k r.run
       (first_clear _ (good_clear s (run_header k) r.header)
       ∙ first_clear _ (number_clear s k r.header r.above)
       ∙ told)
 
   -- and so is what is told of any fixed part
-  pub at-fixed : (r : Fixed) → Reached s r → fixed_trouble s r ≡ At n p → job_trouble s ≡ At n p
+  pub at_fixed : (r : Fixed) → Reached s r → fixed_trouble s r ≡ At n p → job_trouble s ≡ At n p
   unfolding job_trouble run_trouble parts_trouble
-  at-fixed file_header reached told = first_at _ told
-  at-fixed (one_certificate k) reached told = at-certificate k reached (first_at _ told)
-  at-fixed (run_header k) reached told = at-run k reached (first_at _ told)
-  at-fixed (one_point k i) reached told =
-      at-parts k reached.parts
+  at_fixed file_header reached told = first_at _ told
+  at_fixed (one_certificate k) reached told = at_certificate k reached (first_at _ told)
+  at_fixed (run_header k) reached told = at_run k reached (first_at _ told)
+  at_fixed (one_point k i) reached told =
+      at_parts k reached.parts
       (first_at _ (sym (stops (λ j. fixed_trouble s (one_point k j)) i _ (points_clear s k i reached.earlier) refl told reached.inside) ∙ told))
-  at-fixed (one_segment k i) reached told =
-      at-parts k reached.parts
+  at_fixed (one_segment k i) reached told =
+      at_parts k reached.parts
       (first_clear _ (points_clear s k _ reached.points)
       ∙ first_at _ (sym (stops (λ j. fixed_trouble s (one_segment k j)) i _ (segments_clear s k i reached.earlier) refl told reached.inside) ∙ told))
-  at-fixed (one_weighing k i) reached told =
-      at-parts k reached.parts
+  at_fixed (one_weighing k i) reached told =
+      at_parts k reached.parts
       (first_clear _ (points_clear s k _ reached.points)
       ∙ first_clear _ (segments_clear s k _ reached.segments)
       ∙ first_at _ (sym (stops (λ j. fixed_trouble s (one_weighing k j)) i _ (weighings_clear s k i reached.earlier) refl told reached.inside) ∙ told))
@@ -110,22 +110,22 @@ other_version v low high {n} e same = true≢false (sym (rw (same, le-leb least_
 
 pub row_told : (s : List ℕ) {n p : ℕ} → FileRefused s n p → job_trouble s ≡ At n p
 unfolding job_trouble run_trouble parts_trouble run_at
-row_told s (row1 r reached less) = at-fixed s r reached (record_short s (start_of s r) (size_of s r) (rows_of s r) (size_some s r) less)
-row_told s (row2 complete not-marked) = at-fixed s file_header tt (record_bad s 0 file_header_size (file_rows s) complete (here not-marked refl refl))
+row_told s (row1 r reached less) = at_fixed s r reached (record_short s (start_of s r) (size_of s r) (rows_of s r) (size_some s r) less)
+row_told s (row2 complete not-marked) = at_fixed s file_header tt (record_bad s 0 file_header_size (file_rows s) complete (here not-marked refl refl))
 row_told s (row3 complete is-marked not-one not-two) =
-    at-fixed s file_header tt (record_bad s 0 file_header_size (file_rows s) complete (later is-marked (here (neither (u16_at s 3) not-one not-two) refl refl)))
-row_told s (row4 r reached complete b) = at-fixed s r reached (record_bad s (start_of s r) (size_of s r) (rows_of s r) complete b)
-row_told s (row5 r reached complete b) = at-fixed s r reached (record_bad s (start_of s r) (size_of s r) (rows_of s r) complete b)
+    at_fixed s file_header tt (record_bad s 0 file_header_size (file_rows s) complete (later is-marked (here (neither (u16_at s 3) not-one not-two) refl refl)))
+row_told s (row4 r reached complete b) = at_fixed s r reached (record_bad s (start_of s r) (size_of s r) (rows_of s r) complete b)
+row_told s (row5 r reached complete b) = at_fixed s r reached (record_bad s (start_of s r) (size_of s r) (rows_of s r) complete b)
 row_told s (row6 (certificate_again j k reached good inside same)) =
-    at-certificate s k reached
+    at_certificate s k reached
     (first_clear _ (good_clear s (one_certificate k) good)
     ∙ unless_bad repeated (certificate_place (version_of s) k) (ap not (sym (any_stops (λ i. same_certificate (certificate_of s i) (certificate_of s k)) j k refl (repeats_same same) inside))))
 row_told s (row6 (number_not_above k reached good low)) =
-    at-run s (suc k) reached
+    at_run s (suc k) reached
     (first_clear _ (good_clear s (run_header (suc k)) good)
     ∙ first_at _ (unless_bad repeated (run_start s (suc k)) (not_above s k low)))
 row_told s (row7 k r wrong) =
-    at-parts s k r.parts
+    at_parts s k r.parts
     (first_clear _ (points_clear s k _ r.points)
     ∙ first_clear _ (segments_clear s k _ r.segments)
     ∙ first_clear _ (weighings_clear s k _ r.weighings)
@@ -156,8 +156,8 @@ field_number : (rows : List Row) {n p : ℕ} → each (λ n p. of_field n) rows 
 field_number rows {n} {p} all b = subst (λ (t : Trouble). told (λ n p. of_field n) t ≡ true) (bad_checks b) (checks_told (λ n p. of_field n) Clear rows refl all)
 
 module _ (s : List ℕ) {n p : ℕ} where
-  row-of-field : (r : Fixed) → Reached s r → Complete s r → {q : ℕ} → of_field n ≡ true → FirstBad n q (rows_of s r) → start_of s r + q ≡ p → FileRefused s n p
-  row-of-field r reached complete {q} known b there = go (eqb n 4) refl
+  row_of_field : (r : Fixed) → Reached s r → Complete s r → {q : ℕ} → of_field n ≡ true → FirstBad n q (rows_of s r) → start_of s r + q ≡ p → FileRefused s n p
+  row_of_field r reached complete {q} known b there = go (eqb n 4) refl
     where
       five : (t : Bool) → eqb n 5 ≡ t → eqb n 4 ≡ false → FileRefused s n p
       five true e f = let is = eqb-true n 5 e in same_row (sym is) there (row5 r reached complete (subst (λ (m : ℕ). FirstBad m q (rows_of s r)) is b))
@@ -168,24 +168,24 @@ module _ (s : List ℕ) {n p : ℕ} where
       go false e = five (eqb n 5) refl e
 
   -- a fixed part that is reached, behind the file's header
-  of-fixed : (r : Fixed) → Reached s r → each (λ n p. of_field n) (rows_of s r) ≡ true → fixed_trouble s r ≡ At n p → FileRefused s n p
-  of-fixed r reached fields told = go (record_met s (start_of s r) (size_of s r) (rows_of s r) (size_some s r) told)
+  of_fixed : (r : Fixed) → Reached s r → each (λ n p. of_field n) (rows_of s r) ≡ true → fixed_trouble s r ≡ At n p → FileRefused s n p
+  of_fixed r reached fields told = go (record_met s (start_of s r) (size_of s r) (rows_of s r) (size_some s r) told)
     where
       go : RecordMet s (start_of s r) (size_of s r) (rows_of s r) n p → FileRefused s n p
       go (short less number place) = same_row number place (row1 r reached less)
-      go (bad complete b there) = row-of-field r reached complete (field_number (rows_of s r) fields b) b there
+      go (bad complete b there) = row_of_field r reached complete (field_number (rows_of s r) fields b) b there
 
-  of-header : fixed_trouble s file_header ≡ At n p → FileRefused s n p
-  of-header told = go (record_met s 0 file_header_size (file_rows s) (size_some s file_header) told)
+  of_header_lem : fixed_trouble s file_header ≡ At n p → FileRefused s n p
+  of_header_lem told = go (record_met s 0 file_header_size (file_rows s) (size_some s file_header) told)
     where
       go : RecordMet s 0 file_header_size (file_rows s) n p → FileRefused s n p
       go (short less number place) = same_row number place (row1 file_header tt less)
       go (bad complete (here not number there-in) there) = same_row number (cc) (row2 complete not)
       go (bad complete (later ok (here not number there-in)) there) = same_row number (cc) (row3 complete ok (other_version 1 (lit≤ tt) (lit≤ tt) not) (other_version 2 (lit≤ tt) (lit≤ tt) not))
-      go (bad complete (later ok (later ok' b)) there) = row-of-field file_header tt complete (field_number _ refl b) (later ok (later ok' b)) there
+      go (bad complete (later ok (later ok' b)) there) = row_of_field file_header tt complete (field_number _ refl b) (later ok (later ok' b)) there
 
-  of-certificates : Good s file_header → MetIn (entry_trouble s) (certificate_count_of s) n p → FileRefused s n p
-  of-certificates header m = go (met _ _ m.told)
+  of_certificates : Good s file_header → MetIn (entry_trouble s) (certificate_count_of s) n p → FileRefused s n p
+  of_certificates header m = go (met _ _ m.told)
     where
       k : ℕ
       k = m.index
@@ -194,7 +194,7 @@ module _ (s : List ℕ) {n p : ℕ} where
       reached = record { header = header; inside = m.inside; earlier = certificates_good s _ m.clear }
 
       go : Met (certificate_trouble s (certificate_place (version_of s) k)) (trouble_unless (not (repeats s k)) repeated (certificate_place (version_of s) k)) n p → FileRefused s n p
-      go (early t) = of-fixed (one_certificate k) reached refl t
+      go (early t) = of_fixed (one_certificate k) reached refl t
       go (late c t) =
           let f = failed (not (repeats s k)) repeated (certificate_place (version_of s) k) t in
           let one = one_found _ k (not-false (repeats s k) f.not) in
@@ -203,7 +203,7 @@ module _ (s : List ℕ) {n p : ℕ} where
   -- what is told of the parts of a run that is reached
   of_parts : (k : ℕ) → ReachedParts s k → parts_trouble s (run_start s k) (counts_of s k) ≡ At n p → FileRefused s n p
   unfolding parts_trouble
-  of_parts k r e = after-header (met _ _ e)
+  of_parts k r e = after_header (met _ _ e)
     where
       counts : Counts
       counts = counts_of s k
@@ -223,8 +223,8 @@ module _ (s : List ℕ) {n p : ℕ} where
       points : Trouble
       points = points_trouble s (start + run_header_size (version_of s)) counts.points
 
-      at-seconds : points ≡ Clear → segments ≡ Clear → weighings ≡ Clear → seconds ≡ At n p → FileRefused s n p
-      at-seconds c d f t =
+      at_seconds : points ≡ Clear → segments ≡ Clear → weighings ≡ Clear → seconds ≡ At n p → FileRefused s n p
+      at_seconds c d f t =
           let w = failed (good_seconds s start counts) wrong_seconds start t in
           same_row w.number w.place
           (row7 k
@@ -236,9 +236,9 @@ module _ (s : List ℕ) {n p : ℕ} where
           })
           (seconds_wrong s k w.not))
 
-      at-weighing : points ≡ Clear → segments ≡ Clear → MetIn (λ i. fixed_trouble s (one_weighing k i)) counts.weighings n p → FileRefused s n p
-      at-weighing c d m =
-          of-fixed (one_weighing k m.index)
+      at_weighing : points ≡ Clear → segments ≡ Clear → MetIn (λ i. fixed_trouble s (one_weighing k i)) counts.weighings n p → FileRefused s n p
+      at_weighing c d m =
+          of_fixed (one_weighing k m.index)
           (record {
             parts = r;
             points = points_good s k _ c;
@@ -248,9 +248,9 @@ module _ (s : List ℕ) {n p : ℕ} where
           })
           refl m.told
 
-      at-segment : points ≡ Clear → MetIn (λ i. fixed_trouble s (one_segment k i)) counts.segments n p → FileRefused s n p
-      at-segment c m =
-          of-fixed (one_segment k m.index)
+      at_segment : points ≡ Clear → MetIn (λ i. fixed_trouble s (one_segment k i)) counts.segments n p → FileRefused s n p
+      at_segment c m =
+          of_fixed (one_segment k m.index)
           (record {
             parts = r;
             points = points_good s k _ c;
@@ -259,28 +259,28 @@ module _ (s : List ℕ) {n p : ℕ} where
           })
           refl m.told
 
-      at-point : MetIn (λ i. fixed_trouble s (one_point k i)) counts.points n p → FileRefused s n p
-      at-point m =
-          of-fixed (one_point k m.index)
+      at_point : MetIn (λ i. fixed_trouble s (one_point k i)) counts.points n p → FileRefused s n p
+      at_point m =
+          of_fixed (one_point k m.index)
           (record { parts = r; inside = m.inside; earlier = points_good s k _ m.clear })
           refl m.told
 
-      after-segments : points ≡ Clear → segments ≡ Clear → Met weighings seconds n p → FileRefused s n p
-      after-segments c d (early t) = at-weighing c d (met_in _ _ t)
-      after-segments c d (late f t) = at-seconds c d f t
+      after_segments : points ≡ Clear → segments ≡ Clear → Met weighings seconds n p → FileRefused s n p
+      after_segments c d (early t) = at_weighing c d (met_in _ _ t)
+      after_segments c d (late f t) = at_seconds c d f t
 
-      after-points : points ≡ Clear → Met segments (first weighings seconds) n p → FileRefused s n p
-      after-points c (early t) = at-segment c (met_in _ _ t)
-      after-points c (late d t) = after-segments c d (met _ _ t)
+      after_points : points ≡ Clear → Met segments (first weighings seconds) n p → FileRefused s n p
+      after_points c (early t) = at_segment c (met_in _ _ t)
+      after_points c (late d t) = after_segments c d (met _ _ t)
 
-      after-header : Met points (first segments (first weighings seconds)) n p → FileRefused s n p
-      after-header (early t) = at-point (met_in _ _ t)
-      after-header (late c t) = after-points c (met _ _ t)
+      after_header : Met points (first segments (first weighings seconds)) n p → FileRefused s n p
+      after_header (early t) = at_point (met_in _ _ t)
+      after_header (late c t) = after_points c (met _ _ t)
 
   -- a run that is reached
-  of-run : (k : ℕ) → ReachedRun s k → run_trouble s (run_start s k) (number_before s k) ≡ At n p → FileRefused s n p
+  of_run_lem : (k : ℕ) → ReachedRun s k → run_trouble s (run_start s k) (number_before s k) ≡ At n p → FileRefused s n p
   unfolding run_trouble run_at
-  of-run k r e = own (met _ _ e)
+  of_run_lem k r e = own (met _ _ e)
     where
       number : Trouble
       number = trouble_unless (ltb (number_before s k) (number_of s k)) repeated (run_start s k)
@@ -293,7 +293,7 @@ module _ (s : List ℕ) {n p : ℕ} where
           of_parts k (record { run = r; header = good; above = above_before s k (ltb-true _ _ (unless_clear _ _ _ c)) }) t
 
       own : Met (fixed_trouble s (run_header k)) (first number (parts_trouble s (run_start s k) (counts_of s k))) n p → FileRefused s n p
-      own (early t) = of-fixed (run_header k) r refl t
+      own (early t) = of_fixed (run_header k) r refl t
       own (late c t) = behind (clear_good s (run_header k) c) (met _ _ t)
 
 pub told_row : (s : List ℕ) {n p : ℕ} → job_trouble s ≡ At n p → FileRefused s n p
@@ -309,10 +309,10 @@ told_row s {n} {p} e = file (met _ _ e)
     certificates : Trouble
     certificates = certificates_trouble s
 
-    behind-runs : Good s file_header → certificates ≡ Clear → Met runs end n p → FileRefused s n p
-    behind-runs header c (early t) =
+    behind_runs : Good s file_header → certificates ≡ Clear → Met runs end n p → FileRefused s n p
+    behind_runs header c (early t) =
         let m = met_in _ _ t in
-        of-run s m.index
+        of_run_lem s m.index
         (record {
           header = header;
           certificates = certificates_good s _ c;
@@ -320,7 +320,7 @@ told_row s {n} {p} e = file (met _ _ e)
           earlier = runs_good s _ m.clear;
         })
         m.told
-    behind-runs header c (late d t) =
+    behind_runs header c (late d t) =
         let f = failed (leb (length s) (run_start s (run_count_of s))) left_over (run_start s (run_count_of s)) t in
         same_row f.number f.place
         (row8
@@ -331,13 +331,13 @@ told_row s {n} {p} e = file (met _ _ e)
         })
         (leb-false _ _ f.not))
 
-    behind-certificates : Good s file_header → Met certificates (first runs end) n p → FileRefused s n p
-    behind-certificates header (early t) = of-certificates s header (met_in _ _ t)
-    behind-certificates header (late c t) = behind-runs header c (met _ _ t)
+    behind_certificates : Good s file_header → Met certificates (first runs end) n p → FileRefused s n p
+    behind_certificates header (early t) = of_certificates s header (met_in _ _ t)
+    behind_certificates header (late c t) = behind_runs header c (met _ _ t)
 
     file : Met (file_trouble s) (first certificates (first runs end)) n p → FileRefused s n p
-    file (early t) = of-header s t
-    file (late c t) = behind-certificates (clear_good s file_header c) (met _ _ t)
+    file (early t) = of_header_lem s t
+    file (late c t) = behind_certificates (clear_good s file_header c) (met _ _ t)
 
 -- The reader meets a trouble exactly where a row applies, and none exactly where the job is good
 pub reader_by_table : (s : List ℕ) → ((n p : ℕ) → (job_trouble s ≡ At n p) ↔ FileRefused s n p) × ((job_trouble s ≡ Clear) ↔ GoodJob s)

@@ -69,8 +69,8 @@ same_alike {s} {t} e =
 
 -- The first 17,274 bytes of a file decide
 pub front_decides : (s : List ℕ) (m : ℕ) → longest_job < m → Alike (take m s) s
-front_decides s m long = by-trouble (job_trouble s) refl
+front_decides s m long = by_trouble (job_trouble s) refl
   where
-    by-trouble : (t : Trouble) → job_trouble s ≡ t → Alike (take m s) s
-    by-trouble (At n p) e = refused_alike (take m s) s (prefix s m long ∙ e) e
-    by-trouble Clear e = same_alike (take_all m s (omega (arith, read_length s e)))
+    by_trouble : (t : Trouble) → job_trouble s ≡ t → Alike (take m s) s
+    by_trouble (At n p) e = refused_alike (take m s) s (prefix s m long ∙ e) e
+    by_trouble Clear e = same_alike (take_all m s (omega (arith, read_length s e)))

@@ -33,23 +33,23 @@ each_step f at (suc n) good i inside =
     (eq-or-lt_of_le (le_of_suc-le-suc inside))
 
 module _ (f : List ℕ) (at : ℕ) (good : AllGood (list_rows f at)) where
-  steps-good : (i : ℕ) → i < byte_at f at → AllGood (step_rows f at i)
+  steps_good : (i : ℕ) → i < byte_at f at → AllGood (step_rows f at i)
   unfolding list_rows
-  steps-good = each_step f at (byte_at f at) good.1.1
+  steps_good = each_step f at (byte_at f at) good.1.1
 
   -- each step asks for no more than the first may
-  good-step : (i : ℕ) → i < byte_at f at → GoodStep (step_at f at i)
-  good-step zero inside =
-      let (whole, (distance, (whole2, (round, (whole3, (rectangular, none)))))) = steps-good 0 inside in
+  good_step : (i : ℕ) → i < byte_at f at → GoodStep (step_at f at i)
+  good_step zero inside =
+      let (whole, (distance, (whole2, (round, (whole3, (rectangular, none)))))) = steps_good 0 inside in
       record {
         some_round = within_least _ _ _ round;
         few_round = within_greatest _ _ _ round;
         some_rectangular = within_least _ _ _ rectangular;
         few_rectangular = within_greatest _ _ _ rectangular;
       }
-  good-step (suc i) inside =
-      let (whole, (distance, (whole2, (round, (whole3, (rectangular, none)))))) = steps-good (suc i) inside in
-      let before = good-step i (omega arith) in
+  good_step (suc i) inside =
+      let (whole, (distance, (whole2, (round, (whole3, (rectangular, none)))))) = steps_good (suc i) inside in
+      let before = good_step i (omega arith) in
       record {
         some_round = within_least _ _ _ round;
         few_round = omega (arith, within_greatest _ _ _ round, before.few_round);
@@ -59,20 +59,20 @@ module _ (f : List ℕ) (at : ℕ) (good : AllGood (list_rows f at)) where
 
   behind : (i : ℕ) → suc i < byte_at f at → Behind (step_at f at i) (step_at f at (suc i))
   behind i inside =
-      let (whole, (distance, (whole2, (round, (whole3, (rectangular, none)))))) = steps-good (suc i) inside in
+      let (whole, (distance, (whole2, (round, (whole3, (rectangular, none)))))) = steps_good (suc i) inside in
       record {
         distance = omega (arith, leb-true ((step_at f at i).least + 1) (step_at f at (suc i)).least distance);
         round = within_greatest _ _ _ round;
         rectangular = within_greatest _ _ _ rectangular;
       }
 
-  good-list : GoodList f at
+  good_list : GoodList f at
   unfolding list_rows
-  good-list =
+  good_list =
       record {
         some = within_least _ _ _ good.1.0;
         few = within_greatest _ _ _ good.1.0;
-        steps = good-step;
+        steps = good_step;
         rising = behind;
       }
 
@@ -83,7 +83,7 @@ last_step_whole f at good some = go (byte_at f at) refl
     go : (n : ℕ) → byte_at f at ≡ n → list_end f at ≤ length f
     go zero e = absurd (omega (arith, e, some))
     go (suc i) e =
-        let (whole, (distance, (whole2, (round, (whole3, (rectangular, none)))))) = steps-good f at good i (omega (arith, e)) in
+        let (whole, (distance, (whole2, (round, (whole3, (rectangular, none)))))) = steps_good f at good i (omega (arith, e)) in
         omega (arith, e, leb-true (step_place at i + 3 + 1) (length f) whole3)
 
 -- the rows behind the mark and the version, and behind the first list
@@ -102,7 +102,7 @@ to_words f good =
     let (last, later) = both_good (list_rows f last_at) (next_rows f) rest in
     let (next, (end, none2)) = both_good (list_rows f (next_at f)) (end_rows f) later in
     let bytes = both_right (eqb (byte_at f 0) 70) _ mark in
-    let steps = good-list f (next_at f) next in
+    let steps = good_list f (next_at f) next in
     record {
       mark = (
         eqb-true _ _ (both_left (eqb (byte_at f 0) 70) _ mark),
@@ -110,7 +110,7 @@ to_words f good =
         eqb-true _ _ (both_right (eqb (byte_at f 1) 73) _ bytes),
       );
       version = omega (arith, within_least 1 1 (u16_at f 3) version, within_greatest 1 1 (u16_at f 3) version);
-      last = good-list f last_at last;
+      last = good_list f last_at last;
       next = steps;
       whole = omega (arith, leb-true (length f) (list_end f (next_at f)) end, last_step_whole f (next_at f) next steps.some);
     }
@@ -133,28 +133,28 @@ all_steps f at (suc n) each =
 
 module _ (f : List ℕ) (at : ℕ) (good : GoodList f at) (fits : list_end f at ≤ length f) where
   -- each field is complete; what it holds is told
-  step-rows : (i : ℕ) → i < byte_at f at → distance_good f at i ≡ true → round_good f at i ≡ true → rectangular_good f at i ≡ true → AllGood (step_rows f at i)
-  step-rows i inside distance round rectangular =
+  step_rows_lem : (i : ℕ) → i < byte_at f at → distance_good f at i ≡ true → round_good f at i ≡ true → rectangular_good f at i ≡ true → AllGood (step_rows f at i)
+  step_rows_lem i inside distance round rectangular =
       let p : ℕ = step_place at i in
       let whole : p + 2 ≤ length f = omega (arith, fits) in
       let whole2 : p + 2 + 1 ≤ length f = omega (arith, fits) in
       let whole3 : p + 3 + 1 ≤ length f = omega (arith, fits) in
       (le-leb _ _ whole, (distance, (le-leb _ _ whole2, (round, (le-leb _ _ whole3, (rectangular, tt))))))
 
-  step-good : (i : ℕ) → i < byte_at f at → AllGood (step_rows f at i)
-  step-good zero inside =
+  step_good : (i : ℕ) → i < byte_at f at → AllGood (step_rows f at i)
+  step_good zero inside =
       let p = good.steps 0 inside in
-      step-rows 0 inside (le-leb 0 (step_at f at 0).least (omega arith)) (in_range _ _ _ p.some_round p.few_round) (in_range _ _ _ p.some_rectangular p.few_rectangular)
-  step-good (suc i) inside =
+      step_rows_lem 0 inside (le-leb 0 (step_at f at 0).least (omega arith)) (in_range _ _ _ p.some_round p.few_round) (in_range _ _ _ p.some_rectangular p.few_rectangular)
+  step_good (suc i) inside =
       let p = good.steps (suc i) inside in
       let q = good.rising i inside in
-      step-rows (suc i) inside (le-leb ((step_at f at i).least + 1) (step_at f at (suc i)).least (omega (arith, q.distance))) (in_range _ _ _ p.some_round q.round) (in_range _ _ _ p.some_rectangular q.rectangular)
+      step_rows_lem (suc i) inside (le-leb ((step_at f at i).least + 1) (step_at f at (suc i)).least (omega (arith, q.distance))) (in_range _ _ _ p.some_round q.round) (in_range _ _ _ p.some_rectangular q.rectangular)
 
-  list-good : AllGood (list_rows f at)
+  list_good : AllGood (list_rows f at)
   unfolding list_rows
-  list-good = (
+  list_good = (
     le-leb (at + 1) (length f) (omega (arith, fits)),
-    (in_range _ _ _ good.some good.few, all_steps f at (byte_at f at) step-good),
+    (in_range _ _ _ good.some good.few, all_steps f at (byte_at f at) step_good),
   )
 
 from_words : (f : List ℕ) → GoodFigure f → AllGood (figure_rows f)
@@ -169,9 +169,9 @@ from_words f good =
       ),
     )
     (all_good (list_rows f last_at) (next_rows f)
-    (list-good f last_at good.last (omega (arith, ends)))
+    (list_good f last_at good.last (omega (arith, ends)))
     (all_good (list_rows f (next_at f)) (end_rows f)
-    (list-good f (next_at f) good.next ends)
+    (list_good f (next_at f) good.next ends)
     (le-leb (length f) (list_end f (next_at f)) (omega (arith, good.whole)), tt)))
 
 -- A figure is read exactly where it is a good one

@@ -7,7 +7,7 @@ use Rattle.readings.specs.Ranges.{meter, pitot, nozzle}
 use Rattle.records.specs.declared.Identity.{Identity}
 use Rattle.records.specs.declared.Certificate.{Certificate}
 use Rattle.choosing.specs.Choosing.{chosen, chosen_for}
-use Rattle.choosing.proofs.Choosing.{chosen-found}
+use Rattle.choosing.proofs.Choosing.{chosen_found}
 use Rattle.opening.specs.Opening.{certificate_count_of}
 use Rattle.heads.specs.Values.{certificate_of}
 use Rattle.job.specs.Places.{run_of}
@@ -16,7 +16,7 @@ use Rattle.demands.specs.OwnLetter.{Own, OwnCertificates}
 
 own : (after : Bool) (kind : ℕ) (id : Identity) (day : ℕ) (f : ℕ → Certificate) (n : ℕ) → Own kind id (chosen after kind id day f n)
 own after kind id day f n c found =
-    let is = (chosen-found after kind id day f n c found).eligible.is in
+    let is = (chosen_found after kind id day f n c found).eligible.is in
     record {
       kind = is.kind;
       maker = ap (λ (i : Identity). i.maker) is.identity;

@@ -15,8 +15,8 @@ use Rattle.records.specs.InRange.{RunOk}
 use Rattle.values.specs.declared.Ratio.TheVariants.{Exact, Unworked}
 use Rattle.values.specs.Promise.{rounded_ratio}
 use Rattle.metering.specs.Metering.{time, metering}
-use Rattle.metering.proofs.Passes.{is-time}
-use Rattle.metering.proofs.RunInRange.{points-ok, time-most}
+use Rattle.metering.proofs.Passes.{is_time}
+use Rattle.metering.proofs.RunInRange.{points_ok, time_most_lem}
 use Rattle.stack.specs.Stack.{stack}
 use Rattle.sampling.specs.Sampling.{sampling}
 use Rattle.sampling.proofs.Percent.{WorkedFrom, worked_or_not, divisor_some}
@@ -90,18 +90,18 @@ module _ (v : Version) (fig : Figure) (r : Run) (ch : Chosen) where
   unfolding lines_for lines sampling
   worked = worked_or_not _ _ _ _
 
-  not-judged : l.sampling.isokinetic ≡ Unworked → NotJudged v fig r ch
+  not_judged : l.sampling.isokinetic ≡ Unworked → NotJudged v fig r ch
   unfolding broken ratio_against
-  not-judged none =
+  not_judged none =
       record {
         line18 = at18 ∙ ap (λ p. if_known (rounded_ratio p)) none;
         fifteen = λ b. false≢true (rw none at (fifteen.0 b));
         sixteen = λ b. false≢true (rw none at (sixteen.0 b));
       }
 
-  judged-exactly : (w : WorkedFrom l.sampling.drawn l.stack.velocity l.sampling.area l.metering.time) → 0 < divisor w.speed w.opening l.metering.time → JudgedExactly v fig r ch
+  judged_exactly : (w : WorkedFrom l.sampling.drawn l.stack.velocity l.sampling.area l.metering.time) → 0 < divisor w.speed w.opening l.metering.time → JudgedExactly v fig r ch
   unfolding lines_for lines sampling division
-  judged-exactly w some =
+  judged_exactly w some =
       let n : ℕ = dividend w.gas in
       let d : ℕ = divisor w.speed w.opening l.metering.time in
       let is : l.sampling.isokinetic ≡ Exact (division n d) = w.is in
@@ -124,9 +124,9 @@ pub judged_by_quotient : (v : Version) (fig : Figure) (r : Run) (ch : Chosen) �
 unfolding lines_for lines metering sampling time
 judged_by_quotient v fig r ch ok certificates = go (worked v fig r ch)
   where
-    time-some : least_seconds ≤ time r.points r.header.counts.points
-    time-some = (is-time r.points r.header.counts.points _ (points-ok r ok) (time-most r ok) refl).low
+    time_some : least_seconds ≤ time r.points r.header.counts.points
+    time_some = (is_time r.points r.header.counts.points _ (points_ok r ok) (time_most_lem r ok) refl).low
 
     go : ((lines_for v r ch).sampling.isokinetic ≡ Unworked) ⊎ WorkedFrom (lines_for v r ch).sampling.drawn (lines_for v r ch).stack.velocity (lines_for v r ch).sampling.area (lines_for v r ch).metering.time → NotJudged v fig r ch ⊎ JudgedExactly v fig r ch
-    go (inl none) = inl (not-judged v fig r ch none)
-    go (inr w) = inr (judged-exactly v fig r ch w (divisor_some (diameters_range ch certificates) w.is_area w.moving time-some))
+    go (inl none) = inl (not_judged v fig r ch none)
+    go (inr w) = inr (judged_exactly v fig r ch w (divisor_some (diameters_range ch certificates) w.is_area w.moving time_some))

@@ -58,39 +58,39 @@ place_rising n rule i j l inside = go (one_of (10 ∷ 11 ∷ 17 ∷ []) rule) re
         let one : places_of n rule ≡ 1 = whole_run (eqb rule 10) (eqb rule 11) (eqb rule 17) _ _ _ e in
         omega arith
 
-module _ (v : Version) (n : Counts) (isBroken : ℕ → ℕ → Bool) where
-  one-sorted : (t : Bool) (f : Finding) → Sorted (cond t (f ∷ []) [])
-  one-sorted true f = ((λ g m. absurd (Memᴰ.not-nil m)), tt)
-  one-sorted false f = tt
+module _ (v : Version) (n : Counts) (is_broken : ℕ → ℕ → Bool) where
+  one_sorted : (t : Bool) (f : Finding) → Sorted (cond t (f ∷ []) [])
+  one_sorted true f = ((λ g m. absurd (Memᴰ.not-nil m)), tt)
+  one_sorted false f = tt
 
-  one-is : (t : Bool) (f g : Finding) → Memᴰ g (cond t (f ∷ []) []) → g ≡ f
-  one-is true f g m = Memᴰ.eq_of_singleton m
-  one-is false f g m = absurd (Memᴰ.not-nil m)
+  one_is : (t : Bool) (f g : Finding) → Memᴰ g (cond t (f ∷ []) []) → g ≡ f
+  one_is true f g m = Memᴰ.eq_of_singleton m
+  one_is false f g m = absurd (Memᴰ.not-nil m)
 
   -- a rule's findings, by place
-  rule-sorted : (rule i : ℕ) → i ≤ places_of n rule → Sorted (rule_findings v (isBroken rule) rule i)
+  rule_sorted : (rule i : ℕ) → i ≤ places_of n rule → Sorted (rule_findings v (is_broken rule) rule i)
   unfolding rule_findings finding_at
-  rule-sorted rule zero inside = tt
-  rule-sorted rule (suc i) inside =
-      sorted_append (rule_findings v (isBroken rule) rule i) (cond (isBroken rule i) (finding_at v rule i ∷ []) [])
-      (rule-sorted rule i (le_of_lt inside))
-      (one-sorted (isBroken rule i) (finding_at v rule i))
+  rule_sorted rule zero inside = tt
+  rule_sorted rule (suc i) inside =
+      sorted_append (rule_findings v (is_broken rule) rule i) (cond (is_broken rule i) (finding_at v rule i ∷ []) [])
+      (rule_sorted rule i (le_of_lt inside))
+      (one_sorted (is_broken rule i) (finding_at v rule i))
       (λ f g mf mg.
-      let o : OfRule v (isBroken rule) rule i f = rule_members v (isBroken rule) rule i mf in
-      rw (o.is, one-is (isBroken rule i) (finding_at v rule i) g mg)
+      let o : OfRule v (is_broken rule) rule i f = rule_members v (is_broken rule) rule i mf in
+      rw (o.is, one_is (is_broken rule i) (finding_at v rule i) g mg)
       (inr (refl, place_rising n rule o.index i o.inside inside)))
 
   -- all findings, by rule and then by place
-  all-sorted : (k : ℕ) → Sorted (findings_to v isBroken (places_of n) k)
+  all_sorted : (k : ℕ) → Sorted (findings_to v is_broken (places_of n) k)
   unfolding findings_to finding_at
-  all-sorted zero = tt
-  all-sorted (suc k) =
-      sorted_append (findings_to v isBroken (places_of n) k) (rule_findings v (isBroken (k + 1)) (k + 1) (places_of n (k + 1)))
-      (all-sorted k)
-      (rule-sorted (k + 1) (places_of n (k + 1)) (le_refl (places_of n (k + 1))))
+  all_sorted zero = tt
+  all_sorted (suc k) =
+      sorted_append (findings_to v is_broken (places_of n) k) (rule_findings v (is_broken (k + 1)) (k + 1) (places_of n (k + 1)))
+      (all_sorted k)
+      (rule_sorted (k + 1) (places_of n (k + 1)) (le_refl (places_of n (k + 1))))
       (λ f g mf mg.
-      let o : OfRules v isBroken (places_of n) k f = all_members v isBroken (places_of n) k mf in
-      let p : OfRule v (isBroken (k + 1)) (k + 1) (places_of n (k + 1)) g = rule_members v (isBroken (k + 1)) (k + 1) _ mg in
+      let o : OfRules v is_broken (places_of n) k f = all_members v is_broken (places_of n) k mf in
+      let p : OfRule v (is_broken (k + 1)) (k + 1) (places_of n (k + 1)) g = rule_members v (is_broken (k + 1)) (k + 1) _ mg in
       let earlier : o.rule < k + 1 = omega (arith, o.last) in
       rw (o.of.is, p.is) (inl earlier))
 
@@ -104,7 +104,7 @@ sorted_at (f ∷ fs) s (suc i) (suc j) l inside = sorted_at fs s.1 i j (le_of_su
 -- The list is in order: by rule, and then by place
 pub in_order : (v : Version) (fig : Figure) (r : Run) (ch : Chosen) (l : Lines) (i j : ℕ) → i < j → j < length (findings v fig r ch l) → Precedes (get_or (findings v fig r ch l) i no_finding) (get_or (findings v fig r ch l) j no_finding)
 unfolding findings
-in_order v fig r ch l i j = sorted_at (findings v fig r ch l) (all-sorted v r.header.counts (broken_at fig r ch l) last_rule) i j
+in_order v fig r ch l i j = sorted_at (findings v fig r ch l) (all_sorted v r.header.counts (broken_at fig r ch l) last_rule) i j
 
 not_before_itself : (a b : Finding) → Precedes a b → a.rule ≡ b.rule → a.place ≡ b.place → ⊥
 not_before_itself a b (inl lower) rule place = omega arith

@@ -13,7 +13,7 @@ use lib.Seq.{get_or-set_other}
 use Rattle.fields.specs.Numbers.{byte_at}
 use Rattle.fields.specs.declared.trouble.Trouble.TheVariants.{Clear}
 use Rattle.arrays.specs.Arrays.{padded}
-use Rattle.arrays.proofs.Arrays.{pad-at}
+use Rattle.arrays.proofs.Arrays.{pad_at}
 use Rattle.readings.specs.Ranges.{greatest_step_count}
 use Rattle.readings.proofs.Ranges.{both_right}
 use Rattle.records.specs.declared.Site.{Site}
@@ -82,14 +82,14 @@ behind f at (suc n) i past =
 module _ (f : List ℕ) (at : ℕ) (good : GoodList f at) where
   place_of : (i : ℕ) → i < byte_at f at → step_of (steps_at f at) i ≡ step_at f at i
   unfolding steps_at
-  place_of i inside = pad-at greatest_step_count no_step (step_at f at) (byte_at f at) i inside good.few
+  place_of i inside = pad_at greatest_step_count no_step (step_at f at) (byte_at f at) i inside good.few
 
   no_place : (i : ℕ) → byte_at f at ≤ i → step_of (steps_at f at) i ≡ no_step
   unfolding steps_at
   no_place i past = behind f at (byte_at f at) i past
 
-  is-step : (i : ℕ) → i < byte_at f at → is_step (step_of (steps_at f at) i) ≡ true
-  is-step i inside = rw (place_of i inside, ne_eqb (step_at f at i).round 0 (λ e. omega (arith, e, (good.steps i inside).some_round)))
+  is_step_lem : (i : ℕ) → i < byte_at f at → is_step (step_of (steps_at f at) i) ≡ true
+  is_step_lem i inside = rw (place_of i inside, ne_eqb (step_at f at i).round 0 (λ e. omega (arith, e, (good.steps i inside).some_round)))
 
   module _ (s : Site) (distance : ℕ) where
     reached : (i : ℕ) → i < byte_at f at → reaches (diameter s) distance (step_of (steps_at f at) i) ≡ true → ReachesStep f at s distance i
@@ -99,9 +99,9 @@ module _ (f : List ℕ) (at : ℕ) (good : GoodList f at) where
         rw (place_of i inside) at
         (leb-true (step.least * (diameter s).over) (100 * (distance * (diameter s).under)) (both_right (is_step step) _ e))
 
-    not-reached : (i : ℕ) → i < byte_at f at → reaches (diameter s) distance (step_of (steps_at f at) i) ≡ false → ReachesStep f at s distance i → ⊥
+    not_reached : (i : ℕ) → i < byte_at f at → reaches (diameter s) distance (step_of (steps_at f at) i) ≡ false → ReachesStep f at s distance i → ⊥
     unfolding reaches
-    not-reached i inside e h = true≢false (sym (rw (is-step i inside, place_of i inside, le-leb _ _ h)) ∙ e)
+    not_reached i inside e h = true≢false (sym (rw (is_step_lem i inside, place_of i inside, le-leb _ _ h)) ∙ e)
 
     record Taken : Type 0 where
       index : ℕ
@@ -109,9 +109,9 @@ module _ (f : List ℕ) (at : ℕ) (good : GoodList f at) where
       is : taken (diameter s) distance (steps_at f at) ≡ step_at f at index
 
     -- none behind the steps is reached
-    within-steps : (i : ℕ) → (reaches (diameter s) distance (step_of (steps_at f at) i) ≡ true) ⊎ (i ≡ 0) → i < byte_at f at
+    within_steps : (i : ℕ) → (reaches (diameter s) distance (step_of (steps_at f at) i) ≡ true) ⊎ (i ≡ 0) → i < byte_at f at
     unfolding reaches
-    within-steps i own = go own (ltb i (byte_at f at)) refl
+    within_steps i own = go own (ltb i (byte_at f at)) refl
       where
         go : (reaches (diameter s) distance (step_of (steps_at f at) i) ≡ true) ⊎ (i ≡ 0) → (b : Bool) → ltb i (byte_at f at) ≡ b → i < byte_at f at
         go own true less = ltb-true i (byte_at f at) less
@@ -121,14 +121,14 @@ module _ (f : List ℕ) (at : ℕ) (good : GoodList f at) where
     takes_one : Taken
     takes_one =
         let places = found (reaches (diameter s) distance) (steps_at f at) 15 in
-        let inside = within-steps places.index places.own in
+        let inside = within_steps places.index places.own in
         record {
           index = places.index;
           takes =
               record {
                 inside = inside;
                 own = ⊎_elim (λ hit. inl (reached places.index inside hit)) (λ first. inr first) places.own;
-                last = λ k above below. not-reached k below (places.last k above (omega (arith, below, good.few)));
+                last = λ k above below. not_reached k below (places.last k above (omega (arith, below, good.few)));
               };
           is = places.is ∙ place_of places.index inside;
         }
@@ -145,5 +145,5 @@ least_by_steps f good s near =
       j = next.index;
       last = last.takes;
       next = next.takes;
-      least = rw (clear, near, is-step f last_at good.last 0 good.last.some, last.is, next.is);
+      least = rw (clear, near, is_step_lem f last_at good.last 0 good.last.some, last.is, next.is);
     }

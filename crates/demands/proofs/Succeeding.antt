@@ -9,7 +9,7 @@ use Rattle.demands.specs.Table.{CallRefused, row14, of_file, row9, row10}
 use Rattle.demands.specs.FigureFile.{Lent}
 use Rattle.demands.specs.Demands.{Call, Promised, Succeeds, ReducesRun, CameTo, by_row, to_run}
 use Rattle.demands.proofs.ByTable.{row_told}
-use Rattle.demands.proofs.Demand1.{came-to}
+use Rattle.demands.proofs.Demand1.{came_to}
 
 some_number : {l : Lent} {s : List ℕ} {run lines findings n p : ℕ} → CallRefused l s run lines findings n p → 1 ≤ n
 some_number (row14 f is bad) = lit≤ tt
@@ -24,7 +24,7 @@ pub record Done (c : Call) : Type 0 where
 
 pub done : (c : Call) → Promised c → Succeeds c → Done c
 unfolding packed
-done c kept success = go (came-to c kept)
+done c kept success = go (came_to c kept)
   where
     go : CameTo c → Done c
     go (by_row n p row refused) = absurd (omega (arith, some_number row, refused.answer, success))

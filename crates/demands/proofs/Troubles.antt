@@ -12,7 +12,7 @@ use Rattle.fields.specs.declared.trouble.Trouble.{Trouble}
 use Rattle.fields.specs.declared.trouble.Trouble.TheVariants.{Clear, At}
 use Rattle.fields.specs.Trouble.{first, trouble_unless, Row, AllGood, checks, from, record_trouble, up_to}
 use Rattle.fields.proofs.FirstTrouble.{clear_not_at, first_clear, first_at, unless_clear, checks_first}
-use Rattle.fields.proofs.RecordTrouble.{short-at, whole-at}
+use Rattle.fields.proofs.RecordTrouble.{short_at, whole_at}
 use Rattle.demands.specs.Table.{FirstBad, here, later}
 
 -- Of two: met in the earlier, or in the later with the earlier clear
@@ -70,13 +70,13 @@ unless_good m q e = rw e
 pub checks_bad : (rs : List Row) {n p : ℕ} → checks Clear rs ≡ At n p → FirstBad n p rs
 unfolding checks
 checks_bad [] e = clear_not_at refl e
-checks_bad (r ∷ rs) {n} {p} e = go (λ t. checks_bad rs t) (met own (checks Clear rs) (sym (checks_first own rs) ∙ first-own ∙ e))
+checks_bad (r ∷ rs) {n} {p} e = go (λ t. checks_bad rs t) (met own (checks Clear rs) (sym (checks_first own rs) ∙ first_own ∙ e))
   where
     own : Trouble
     own = trouble_unless r.ok r.number r.place
 
-    first-own : checks own rs ≡ checks (first Clear own) rs
-    first-own = ap (λ (t : Trouble). checks t rs) (sym (first_clear own refl))
+    first_own : checks own rs ≡ checks (first Clear own) rs
+    first_own = ap (λ (t : Trouble). checks t rs) (sym (first_clear own refl))
 
     go : (checks Clear rs ≡ At n p → FirstBad n p rs) → Met own (checks Clear rs) n p → FirstBad n p (r ∷ rs)
     go rest (early t) = let f = failed r.ok r.number r.place t in here f.not f.number f.place
@@ -125,10 +125,10 @@ record_met s at size rows {n} {p} some e = go (met _ _ e)
 
 -- and back
 pub record_short : (s : List ℕ) (at size : ℕ) (rows : List Row) → 1 ≤ size → length s < at + size → record_trouble s at size rows ≡ At 1 (length s)
-record_short s at size rows some h = sym (short-at s at size rows refl (omega (arith, length-drop at s)))
+record_short s at size rows some h = sym (short_at s at size rows refl (omega (arith, length-drop at s)))
 
 pub record_bad : (s : List ℕ) (at size : ℕ) (rows : List Row) {n q : ℕ} → at + size ≤ length s → FirstBad n q rows → record_trouble s at size rows ≡ At n (at + q)
-record_bad s at size rows {n} {q} h b = sym (whole-at s at size rows refl (omega (arith, length-drop at s)) (sym (bad_checks b)) refl)
+record_bad s at size rows {n} {q} h b = sym (whole_at s at size rows refl (omega (arith, length-drop at s)) (sym (bad_checks b)) refl)
 
 pub record_good : (s : List ℕ) (at size : ℕ) (rows : List Row) → at + size ≤ length s → AllGood rows → record_trouble s at size rows ≡ Clear
-record_good s at size rows h good = sym (whole-at s at size rows refl (omega (arith, length-drop at s)) (sym (good_checks rows good)) refl)
+record_good s at size rows h good = sym (whole_at s at size rows refl (omega (arith, length-drop at s)) (sym (good_checks rows good)) refl)

@@ -25,7 +25,7 @@ use Rattle.leverbonnet.specs.Calls.{Reduces}
 use Rattle.demands.specs.FigureFile.{Lent, supplied, figure_in}
 use Rattle.demands.specs.Demands.{SameRecords, SameRun, SameFigure, SameBytes}
 use Rattle.demands.specs.MovedFactor.{SameUnmoved}
-use Rattle.demands.proofs.NamedRun.{outcome-of-run}
+use Rattle.demands.proofs.NamedRun.{outcome_of_run}
 use Rattle.demands.proofs.SameOutcomes.{reduces_same}
 use Rattle.demands.proofs.Unmoved.{not_moved, worked_same}
 
@@ -50,22 +50,22 @@ module _ (s t : List ℕ) (run : ℕ) (same : SameRecords s t run) where
   ch = chosen_in s same.index
 
   -- reduced, it is what it is in the second, lines and findings, where it is worked alike by both versions
-  same-reduced : (fig : Figure) → worked (version_of s) fig r ch ≡ worked (version_of t) fig r ch → reduced_run fig s same.index ≡ reduced_run fig t same.other
+  same_reduced : (fig : Figure) → worked (version_of s) fig r ch ≡ worked (version_of t) fig r ch → reduced_run fig s same.index ≡ reduced_run fig t same.other
   unfolding reduced_run reduction chosen_in
-  same-reduced fig alike =
+  same_reduced fig alike =
       let chosen = chosen_for_same_members r.header (certificate_of s) (certificate_count_of s) (certificate_of t) (certificate_count_of t) (read_unique s same.first) same.certificates in
       alike ∙ ap (worked (version_of t) fig r) chosen ∙ rw same.record'
 
   -- and so is what the call answers and writes
-  same-reduces : (l : Lent) → worked (version_of s) (figure_in l) r ch ≡ worked (version_of t) (figure_in l) r ch → (lines_in findings_in lines_out findings_out : List ℕ) (result : ℕ) → Reduces (supplied l) s run lines_in findings_in lines_out findings_out result → Reduces (supplied l) t run lines_in findings_in lines_out findings_out result
-  same-reduces l alike lines_in findings_in lines_out findings_out result =
+  same_reduces : (l : Lent) → worked (version_of s) (figure_in l) r ch ≡ worked (version_of t) (figure_in l) r ch → (lines_in findings_in lines_out findings_out : List ℕ) (result : ℕ) → Reduces (supplied l) s run lines_in findings_in lines_out findings_out result → Reduces (supplied l) t run lines_in findings_in lines_out findings_out result
+  same_reduces l alike lines_in findings_in lines_out findings_out result =
       reduces_same (supplied l) (supplied l) s t (ap (unless_bad_figure (supplied l).trouble) same_outcome)
     where
       same_outcome : outcome (figure_in l) s run (length lines_in) (length findings_in) ≡ outcome (figure_in l) t run (length lines_in) (length findings_in)
       same_outcome =
-          outcome-of-run s run same.first (figure_in l) same.index (length lines_in) (length findings_in) same.inside same.number
-          ∙ ap (λ r. handed r (length lines_in) (length findings_in)) (same-reduced (figure_in l) alike)
-          ∙ sym (outcome-of-run t run same.second (figure_in l) same.other (length lines_in) (length findings_in) same.within (ap (λ r. r.header.number) (sym same.record') ∙ same.number))
+          outcome_of_run s run same.first (figure_in l) same.index (length lines_in) (length findings_in) same.inside same.number
+          ∙ ap (λ r. handed r (length lines_in) (length findings_in)) (same_reduced (figure_in l) alike)
+          ∙ sym (outcome_of_run t run same.second (figure_in l) same.other (length lines_in) (length findings_in) same.within (ap (λ r. r.header.number) (sym same.record') ∙ same.number))
 
 -- Two jobs of one version and one figure, or none: what the call answers and writes for one, it answers and writes for the other, byte for
 -- byte
@@ -73,7 +73,7 @@ pub same_bytes : SameBytes SameFigure SameRun
 same_bytes l m s t run figures alike =
     let r = run_of s alike.records.index in
     let ch = chosen_in s alike.records.index in
-    rw (← figures) (same-reduces s t run alike.records l (ap (λ v. worked v (figure_in l) r ch) alike.version))
+    rw (← figures) (same_reduces s t run alike.records l (ap (λ v. worked v (figure_in l) r ch) alike.version))
 
 -- Two jobs of whatever versions, where the run does not break rule 5
 pub same_unless_moved : SameBytes SameFigure SameUnmoved
@@ -82,4 +82,4 @@ same_unless_moved l m s t run figures alike =
     let ch = chosen_in s alike.records.index in
     let unmoved = not_moved no_figure r ch _ alike.unmoved in
     rw (← figures)
-    (same-reduces s t run alike.records l (worked_same (version_of s) (figure_in l) r ch unmoved ∙ sym (worked_same (version_of t) (figure_in l) r ch unmoved)))
+    (same_reduces s t run alike.records l (worked_same (version_of s) (figure_in l) r ch unmoved ∙ sym (worked_same (version_of t) (figure_in l) r ch unmoved)))

@@ -59,25 +59,25 @@ module _ (v : Version) where
   one_same rule i true same = rw (same refl)
   one_same rule i false same = refl
 
-  rule-same : (isBroken : ℕ → Bool) (rule n : ℕ) → ((i : ℕ) → isBroken i ≡ true → class_of v rule ≡ class_of Two rule) → rule_findings v isBroken rule n ≡ rule_findings Two isBroken rule n
+  rule_same : (is_broken : ℕ → Bool) (rule n : ℕ) → ((i : ℕ) → is_broken i ≡ true → class_of v rule ≡ class_of Two rule) → rule_findings v is_broken rule n ≡ rule_findings Two is_broken rule n
   unfolding rule_findings
-  rule-same isBroken rule zero same = refl
-  rule-same isBroken rule (suc n) same = ap₂ (λ fs gs. fs ++ gs) (rule-same isBroken rule n same) (one_same rule n (isBroken n) (same n))
+  rule_same is_broken rule zero same = refl
+  rule_same is_broken rule (suc n) same = ap₂ (λ fs gs. fs ++ gs) (rule_same is_broken rule n same) (one_same rule n (is_broken n) (same n))
 
-  all_same : (isBroken : ℕ → ℕ → Bool) (places : ℕ → ℕ) (k : ℕ) → ((rule i : ℕ) → isBroken rule i ≡ true → class_of v rule ≡ class_of Two rule) → findings_to v isBroken places k ≡ findings_to Two isBroken places k
+  all_same : (is_broken : ℕ → ℕ → Bool) (places : ℕ → ℕ) (k : ℕ) → ((rule i : ℕ) → is_broken rule i ≡ true → class_of v rule ≡ class_of Two rule) → findings_to v is_broken places k ≡ findings_to Two is_broken places k
   unfolding findings_to
-  all_same isBroken places zero same = refl
-  all_same isBroken places (suc k) same =
-      ap₂ (λ fs gs. fs ++ gs) (all_same isBroken places k same) (rule-same (isBroken (k + 1)) (k + 1) (places (k + 1)) (same (k + 1)))
+  all_same is_broken places zero same = refl
+  all_same is_broken places (suc k) same =
+      ap₂ (λ fs gs. fs ++ gs) (all_same is_broken places k same) (rule_same (is_broken (k + 1)) (k + 1) (places (k + 1)) (same (k + 1)))
 
 module _ (v : Version) (fig : Figure) (r : Run) (ch : Chosen) (e : Unmoved ch) where
   not_five : (l : Lines) (rule i : ℕ) → broken_at fig r ch l rule i ≡ true → rule ≡ 5 → ⊥
   unfolding beside_of broken_at table ground_of
   not_five l rule i is five = true≢false (sym (rw five at is) ∙ e)
 
-  findings-same : (l : Lines) → findings v fig r ch l ≡ findings Two fig r ch l
+  findings_same : (l : Lines) → findings v fig r ch l ≡ findings Two fig r ch l
   unfolding findings
-  findings-same l =
+  findings_same l =
       all_same v (broken_at fig r ch l) (places_of r.header.counts) last_rule (λ rule i is. class_same v rule (not_five l rule i is))
 
   lines_same : lines_for v r ch ≡ lines_for Two r ch
@@ -86,7 +86,7 @@ module _ (v : Version) (fig : Figure) (r : Run) (ch : Chosen) (e : Unmoved ch) w
 
   pub worked_same : worked v fig r ch ≡ worked Two fig r ch
   unfolding worked findings_for
-  worked_same = rw (findings-same, lines_same)
+  worked_same = rw (findings_same, lines_same)
 
 -- a run that does not break rule 5 has such a factor
 pub not_moved : (fig : Figure) (r : Run) (ch : Chosen) (l : Lines) → (Breaks fig r ch l 5 0 → ⊥) → Unmoved ch

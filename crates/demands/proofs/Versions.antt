@@ -100,25 +100,25 @@ first_version s e = laid_out One version1 fits_1 s (rw e)
 
 -- numbers behind m bytes
 module _ (m : ℕ) (t : List ℕ) where
-  byte-behind : (p : ℕ) → byte_at (drop m t) p ≡ byte_at t (m + p)
-  byte-behind p = get_or-drop m t p 0
+  byte_behind : (p : ℕ) → byte_at (drop m t) p ≡ byte_at t (m + p)
+  byte_behind p = get_or-drop m t p 0
 
-  u16-behind : (p : ℕ) → u16_at (drop m t) p ≡ u16_at t (m + p)
+  u16_behind : (p : ℕ) → u16_at (drop m t) p ≡ u16_at t (m + p)
   unfolding u16_at
-  u16-behind p = rw (byte-behind p, byte-behind (p + 1), add_assoc m p 1)
+  u16_behind p = rw (byte_behind p, byte_behind (p + 1), add_assoc m p 1)
 
-  u32-behind : (p : ℕ) → u32_at (drop m t) p ≡ u32_at t (m + p)
+  u32_behind : (p : ℕ) → u32_at (drop m t) p ≡ u32_at t (m + p)
   unfolding u32_at
-  u32-behind p = rw (u16-behind p, u16-behind (p + 2), add_assoc m p 2)
+  u32_behind p = rw (u16_behind p, u16_behind (p + 2), add_assoc m p 2)
 
-  i16-behind : (p : ℕ) → i16_at (drop m t) p ≡ i16_at t (m + p)
+  i16_behind : (p : ℕ) → i16_at (drop m t) p ≡ i16_at t (m + p)
   unfolding i16_at
-  i16-behind p = rw (u16-behind p)
+  i16_behind p = rw (u16_behind p)
 
 header_2 : (t : List ℕ) → header Two t ≡ version2.header t
 header_2 t =
-    let u16 = u16-behind 3 t in
-    let byte = byte-behind 3 t in
+    let u16 = u16_behind 3 t in
+    let byte = byte_behind 3 t in
     λ i.
     record {
       number = u16_at t 0;
@@ -127,11 +127,11 @@ header_2 t =
       pitot = identity2 t 12;
       nozzle = identity2 t 20;
       pb = u16 25 i;
-      pg = i16-behind 3 t 27 i;
+      pg = i16_behind 3 t 27 i;
       co2 = u16 29 i;
       o2 = u16 31 i;
-      first = u32-behind 3 t 33 i;
-      last = u32-behind 3 t 37 i;
+      first = u32_behind 3 t 33 i;
+      last = u32_behind 3 t 37 i;
       water = u16 41 i;
       site = record { shape = byte 43 i; first = u16 44 i; second = u16 46 i; next = u16 48 i; last = u16 50 i };
       acetone = record { residue = u16 52 i; blank = u16 54 i; rinse = u16 56 i; density = u16 58 i };
@@ -140,7 +140,7 @@ header_2 t =
 
 certificate_2 : (t : List ℕ) → certificate Two t ≡ version2.certificate t
 certificate_2 t =
-    let u16 = u16-behind 1 t in
+    let u16 = u16_behind 1 t in
     λ i. record { kind = byte_at t 0; identity = identity2 t 1; day = u16 8 i; first = u16 10 i; second = u16 12 i; third = u16 14 i }
 
 fits_2 : Fits Two version2
@@ -152,7 +152,7 @@ fits_2 =
       certificate_fields = λ t. ap (λ (c : Certificate). checks Clear (certificate_rows Two c)) (certificate_2 t);
       header_bytes = refl;
       of_header = header_2;
-      header_fields = λ t. ap₂ (λ (h : RunHeader) (spare : ℕ). checks Clear (header_rows Two h spare)) (header_2 t) (byte-behind 3 t 63);
+      header_fields = λ t. ap₂ (λ (h : RunHeader) (spare : ℕ). checks Clear (header_rows Two h spare)) (header_2 t) (byte_behind 3 t 63);
     }
 
 -- and one that says 2 by that of version 2, a letter behind each serial

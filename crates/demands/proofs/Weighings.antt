@@ -35,9 +35,9 @@ module _ (v : Version) (fig : Figure) (r : Run) (ch : Chosen) where
   unfolding part_of beside_of broken_at table ground_of
   goes_by i = refl
 
-  unsteady-there : (place : ℕ) → BreaksWeighing v fig r ch place → Unsteady r place
+  unsteady_there : (place : ℕ) → BreaksWeighing v fig r ch place → Unsteady r place
   unfolding places_of place_at
-  unsteady-there place b =
+  unsteady_there place b =
       let w : Weighing = weighing_of r b.index in
       let judged = (unsteady_exactly w).0 (sym (goes_by b.index) ∙ b.broken) in
       record {
@@ -48,9 +48,9 @@ module _ (v : Version) (fig : Figure) (r : Run) (ch : Chosen) where
         percent = (less_below w.second w.tare (100 * difference w)).1 judged.1;
       }
 
-  broken-there : (place : ℕ) → Unsteady r place → BreaksWeighing v fig r ch place
+  broken_there : (place : ℕ) → Unsteady r place → BreaksWeighing v fig r ch place
   unfolding places_of place_at
-  broken-there place u =
+  broken_there place u =
       let w : Weighing = weighing_of r u.index in
       let above = (less_below w.second w.tare (100 * difference w)).0 u.percent in
       record {
@@ -66,7 +66,7 @@ module _ (v : Version) (fig : Figure) (r : Run) (ch : Chosen) where
 pub judged_by_net : (v : Version) (fig : Figure) (r : Run) (ch : Chosen) → JudgedByNet v fig r ch
 judged_by_net v fig r ch =
     record {
-      both = λ place. (unsteady-there v fig r ch place, broken-there v fig r ch place);
+      both = λ place. (unsteady_there v fig r ch place, broken_there v fig r ch place);
       negative = λ i inside below. (units i, enough i inside below);
     }
   where
@@ -77,11 +77,11 @@ judged_by_net v fig r ch =
 
     units : (i : ℕ) → BreaksWeighing v fig r ch (i + 1) → 5 < difference (weighing_of r i)
     units i b =
-        let u = unsteady-there v fig r ch (i + 1) b in
+        let u = unsteady_there v fig r ch (i + 1) b in
         let same : u.index ≡ i = omega (arith, u.there) in
         rw same at u.units
 
     enough : (i : ℕ) → i < r.header.counts.weighings → net (weighing_of r i) <ℤ pos 0 → 5 < difference (weighing_of r i) → BreaksWeighing v fig r ch (i + 1)
     enough i inside below apart =
-        broken-there v fig r ch (i + 1)
+        broken_there v fig r ch (i + 1)
         (record { index = i; inside = inside; there = refl; units = apart; percent = percent (weighing_of r i) below })

@@ -82,33 +82,33 @@ smaller_is n e =
 
 -- The larger count is along the longer side, along the first where they are equal
 module _ (n first second : ℕ) where
-  pub first-longer : second ≤ first → first_cells n first second ≡ (grid_of n).larger
+  pub first_longer : second ≤ first → first_cells n first second ≡ (grid_of n).larger
   unfolding first_cells
-  first-longer h = rw (le-leb second first h)
+  first_longer h = rw (le-leb second first h)
 
-  pub first-shorter : first < second → first_cells n first second ≡ (grid_of n).smaller
+  pub first_shorter : first < second → first_cells n first second ≡ (grid_of n).smaller
   unfolding first_cells
-  first-shorter h = rw (lt-leb second first h)
+  first_shorter h = rw (lt-leb second first h)
 
-  pub second-shorter : second ≤ first → second_cells n first second ≡ (grid_of n).smaller
+  pub second_shorter : second ≤ first → second_cells n first second ≡ (grid_of n).smaller
   unfolding second_cells
-  second-shorter h = rw (le-leb second first h)
+  second_shorter h = rw (le-leb second first h)
 
-  pub second-longer : first < second → second_cells n first second ≡ (grid_of n).larger
+  pub second_longer : first < second → second_cells n first second ≡ (grid_of n).larger
   unfolding second_cells
-  second-longer h = rw (lt-leb second first h)
+  second_longer h = rw (lt-leb second first h)
 
-  pub cells-ok : grid_points n ≡ true → CellsOk n (first_cells n first second) (second_cells n first second)
-  cells-ok e = go (dec_le second first)
+  pub cells_ok : grid_points n ≡ true → CellsOk n (first_cells n first second) (second_cells n first second)
+  cells_ok e = go (dec_le second first)
     where
       ok : CellsOk n (grid_of n).larger (grid_of n).smaller
       ok = grid_ok n e
 
       go : Dec (second ≤ first) → CellsOk n (first_cells n first second) (second_cells n first second)
-      go (yes h) = rw (first-longer h, second-shorter h) ok
+      go (yes h) = rw (first_longer h, second_shorter h) ok
       go (no f) =
           let h : first < second = lt_of_not-le f in
-          rw (first-shorter h, second-longer h)
+          rw (first_shorter h, second_longer h)
           (record {
             cells = mul_comm (grid_of n).larger (grid_of n).smaller ∙ ok.cells;
             columns_some = ok.rows_some;
@@ -170,24 +170,24 @@ round_apart n m d some apart = go (dec_le (round_div m d) (round_div n d))
 
 -- A center is at least half a cell from both walls, and a cell from the next: more than rounding takes away
 module _ (side cells : ℕ) (wide : 1 ≤ side) (some : 1 ≤ cells) (few : cells ≤ 7) where
-  center-rises : (i : ℕ) → 1 ≤ i → center side cells i < center side cells (i + 1)
+  center_rises : (i : ℕ) → 1 ≤ i → center side cells i < center side cells (i + 1)
   unfolding center
-  center-rises i first =
+  center_rises i first =
       let odd : (2 * (i + 1) - 1) * 100 ≡ (2 * i - 1) * 100 + 200 = omega arith in
       let next : (2 * (i + 1) - 1) * 100 * side ≡ (2 * i - 1) * 100 * side + 200 * side = rw odd (add-mul ((2 * i - 1) * 100) 200 side) in
       round_apart ((2 * i - 1) * 100 * side) ((2 * (i + 1) - 1) * 100 * side) (2 * cells) (omega arith) (omega arith)
 
-  center-low : (i : ℕ) → 1 ≤ i → 0 < center side cells i
+  center_low : (i : ℕ) → 1 ≤ i → 0 < center side cells i
   unfolding center
-  center-low i first =
+  center_low i first =
       let odd : 100 ≤ (2 * i - 1) * 100 = omega arith in
       let times : 100 * side ≤ (2 * i - 1) * 100 * side = mul-le-mul_right side odd in
       let enough : 1 * (2 * cells) ≤ (2 * i - 1) * 100 * side = omega arith in
       le_round ((2 * i - 1) * 100 * side) (2 * cells) 1 (omega arith) enough
 
-  pub center-high : (i : ℕ) → 1 ≤ i → i ≤ cells → center side cells i < 100 * side
+  pub center_high : (i : ℕ) → 1 ≤ i → i ≤ cells → center side cells i < 100 * side
   unfolding center
-  center-high i first inside =
+  center_high i first inside =
       let odd : (2 * i - 1) * 100 + 100 ≤ 200 * cells = omega arith in
       let times : ((2 * i - 1) * 100 + 100) * side ≤ 200 * cells * side = mul-le-mul_right side odd in
       let spread : ((2 * i - 1) * 100 + 100) * side ≡ (2 * i - 1) * 100 * side + 100 * side = add-mul ((2 * i - 1) * 100) 100 side in
@@ -204,7 +204,7 @@ pub record Spread (side cells : ℕ) : Type 0 where
 pub spread : (side cells : ℕ) → 1 ≤ side → 1 ≤ cells → cells ≤ 7 → Spread side cells
 spread side cells wide some few =
     record {
-      low = center-low side cells wide some few;
-      high = center-high side cells wide some few;
-      rises = center-rises side cells wide some few;
+      low = center_low side cells wide some few;
+      high = center_high side cells wide some few;
+      rises = center_rises side cells wide some few;
     }

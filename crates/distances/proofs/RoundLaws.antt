@@ -56,16 +56,16 @@ margin_half {n} {d} {z} ok = omega (arith, margin_most d z ok.nozzle_most, ok.di
 
 -- Two numbers that make up a width in tenths, each rounded: one too many where both are a half
 module _ (x y width : ℕ) (whole : x + y ≡ 10 * width) where
-  pub rounded-half : x % 10 ≡ 5 → round_div x 10 + round_div y 10 ≡ width + 1
-  rounded-half half =
+  pub rounded_half : x % 10 ≡ 5 → round_div x 10 + round_div y 10 ≡ width + 1
+  rounded_half half =
       let a = round_is x 10 (lit< tt) in
       let b = round_is y 10 (lit< tt) in
       let near : round_div x 10 ≡ x / 10 + 1 = omega arith in
       let far : round_div y 10 + x / 10 ≡ width = omega arith in
       omega arith
 
-  pub rounded-whole : (x % 10 ≡ 5 → ⊥) → round_div x 10 + round_div y 10 ≡ width
-  rounded-whole no-half = go (dec_le (round_div x 10 + round_div y 10) width)
+  pub rounded_whole : (x % 10 ≡ 5 → ⊥) → round_div x 10 + round_div y 10 ≡ width
+  rounded_whole no-half = go (dec_le (round_div x 10 + round_div y 10) width)
     where
       a : IsRounded x 10 (round_div x 10)
       a = round_is x 10 (lit< tt)
@@ -88,66 +88,66 @@ one_too_many m width x y =
 
 -- What is kept from the walls lies between the margins, keeps its order, and the walls may be taken in either order
 module _ (m width : ℕ) (half : 2 * m ≤ width) where
-  pub kept-least : (x : ℕ) → m ≤ kept m width x
+  pub kept_least : (x : ℕ) → m ≤ kept m width x
   unfolding kept
-  kept-least x = omega arith
+  kept_least x = omega arith
 
-  pub kept-most : (x : ℕ) → kept m width x ≤ width - m
+  pub kept_most : (x : ℕ) → kept m width x ≤ width - m
   unfolding kept
-  kept-most x = omega arith
+  kept_most x = omega arith
 
-  pub kept-mono : (x y : ℕ) → x ≤ y → kept m width x ≤ kept m width y
+  pub kept_mono : (x y : ℕ) → x ≤ y → kept m width x ≤ kept m width y
   unfolding kept
-  kept-mono x y h = omega arith
+  kept_mono x y h = omega arith
 
-  pub kept-either-wall-first : (x : ℕ) → kept m width x ≡ max (min x (width - m)) m
+  pub kept_either_wall_first : (x : ℕ) → kept m width x ≡ max (min x (width - m)) m
   unfolding kept
-  kept-either-wall-first x = omega arith
+  kept_either_wall_first x = omega arith
 
   -- The same two, kept from the walls as well: one too many only where neither was moved
   module _ (x y : ℕ) (whole : x + y ≡ 10 * width) where
-    mirror-whole : (x % 10 ≡ 5 → ⊥) → kept m width (round_div x 10) + kept m width (round_div y 10) ≡ width
+    mirror_whole : (x % 10 ≡ 5 → ⊥) → kept m width (round_div x 10) + kept m width (round_div y 10) ≡ width
     unfolding kept
-    mirror-whole no-half = omega (arith, rounded-whole x y width whole no-half)
+    mirror_whole no-half = omega (arith, rounded_whole x y width whole no-half)
 
-    mirror-near : (kept m width (round_div x 10) ≡ round_div x 10 → ⊥) → kept m width (round_div x 10) + kept m width (round_div y 10) ≡ width
+    mirror_near : (kept m width (round_div x 10) ≡ round_div x 10 → ⊥) → kept m width (round_div x 10) + kept m width (round_div y 10) ≡ width
     unfolding kept round_div
-    mirror-near moved = omega arith
+    mirror_near moved = omega arith
 
-    mirror-far : (kept m width (round_div y 10) ≡ round_div y 10 → ⊥) → kept m width (round_div x 10) + kept m width (round_div y 10) ≡ width
+    mirror_far : (kept m width (round_div y 10) ≡ round_div y 10 → ⊥) → kept m width (round_div x 10) + kept m width (round_div y 10) ≡ width
     unfolding kept round_div
-    mirror-far moved = omega arith
+    mirror_far moved = omega arith
 
-    pub kept-mirror : kept m width (round_div x 10) + kept m width (round_div y 10) ≡ width + cond (one_too_many m width x y) 1 0
-    kept-mirror = go (ℕ_discrete (x % 10) 5) (ℕ_discrete (kept m width (round_div x 10)) (round_div x 10)) (ℕ_discrete (kept m width (round_div y 10)) (round_div y 10))
+    pub kept_mirror : kept m width (round_div x 10) + kept m width (round_div y 10) ≡ width + cond (one_too_many m width x y) 1 0
+    kept_mirror = go (ℕ_discrete (x % 10) 5) (ℕ_discrete (kept m width (round_div x 10)) (round_div x 10)) (ℕ_discrete (kept m width (round_div y 10)) (round_div y 10))
       where
         go : Dec (x % 10 ≡ 5) → Dec (kept m width (round_div x 10) ≡ round_div x 10) → Dec (kept m width (round_div y 10) ≡ round_div y 10) → kept m width (round_div x 10) + kept m width (round_div y 10) ≡ width + cond (one_too_many m width x y) 1 0
-        go (no a) b c = rw (ne_eqb _ _ a) (omega (arith, mirror-whole a))
-        go (yes a) (no b) c = rw (eq-eqb _ _ a, ne_eqb _ _ b) (omega (arith, mirror-near b))
-        go (yes a) (yes b) (no c) = rw (eq-eqb _ _ a, eq-eqb _ _ b, ne_eqb _ _ c) (omega (arith, mirror-far c))
-        go (yes a) (yes b) (yes c) = rw (eq-eqb _ _ a, eq-eqb _ _ b, eq-eqb _ _ c) (omega (arith, rounded-half x y width whole a))
+        go (no a) b c = rw (ne_eqb _ _ a) (omega (arith, mirror_whole a))
+        go (yes a) (no b) c = rw (eq-eqb _ _ a, ne_eqb _ _ b) (omega (arith, mirror_near b))
+        go (yes a) (yes b) (no c) = rw (eq-eqb _ _ a, eq-eqb _ _ b, ne_eqb _ _ c) (omega (arith, mirror_far c))
+        go (yes a) (yes b) (yes c) = rw (eq-eqb _ _ a, eq-eqb _ _ b, eq-eqb _ _ c) (omega (arith, rounded_half x y width whole a))
 
 -- The distances of a layout inside its ranges, point i counted from 1
 module _ (n d z : ℕ) (ok : RoundOk n d z) where
   pub distance_least : (i : ℕ) → margin d z ≤ distance n d z i
   unfolding distance
-  distance_least i = kept-least (margin d z) (100 * d) (margin_half ok) (measured n d i)
+  distance_least i = kept_least (margin d z) (100 * d) (margin_half ok) (measured n d i)
 
   pub distance_most : (i : ℕ) → distance n d z i ≤ 100 * d - margin d z
   unfolding distance
-  distance_most i = kept-most (margin d z) (100 * d) (margin_half ok) (measured n d i)
+  distance_most i = kept_most (margin d z) (100 * d) (margin_half ok) (measured n d i)
 
-  pub distance-mono : (i j : ℕ) → 1 ≤ i → i ≤ j → j ≤ n → distance n d z i ≤ distance n d z j
+  pub distance_mono : (i j : ℕ) → 1 ≤ i → i ≤ j → j ≤ n → distance n d z i ≤ distance n d z j
   unfolding distance measured
-  distance-mono i j some inward inside =
-      kept-mono (margin d z) (100 * d) (margin_half ok) (measured n d i) (measured n d j)
+  distance_mono i j some inward inside =
+      kept_mono (margin d z) (100 * d) (margin_half ok) (measured n d i) (measured n d j)
       (round_mono (position n i * d) (position n j * d) 10 (lit< tt) (mul-le-mul_right d (position_mono (points_of n ok.points) some inward inside)))
 
   -- Point i and its mirror image make up the width, or one thousandth more
-  pub distance-mirror : (i : ℕ) → 1 ≤ i → i ≤ n → distance n d z i + distance n d z (n + 1 - i) ≡ 100 * d + cond (one_too_many (margin d z) (100 * d) (position n i * d) (position n (n + 1 - i) * d)) 1 0
+  pub distance_mirror : (i : ℕ) → 1 ≤ i → i ≤ n → distance n d z i + distance n d z (n + 1 - i) ≡ 100 * d + cond (one_too_many (margin d z) (100 * d) (position n i * d) (position n (n + 1 - i) * d)) 1 0
   unfolding distance measured
-  distance-mirror i some inside =
+  distance_mirror i some inside =
       let whole : position n i + position n (n + 1 - i) ≡ 1000 = position_mirror (points_of n ok.points) some inside in
       let spread : (position n i + position n (n + 1 - i)) * d ≡ position n i * d + position n (n + 1 - i) * d = add-mul (position n i) (position n (n + 1 - i)) d in
       let width : (position n i + position n (n + 1 - i)) * d ≡ 1000 * d = ap (λ p. p * d) whole in
-      kept-mirror (margin d z) (100 * d) (margin_half ok) (position n i * d) (position n (n + 1 - i) * d) (omega arith)
+      kept_mirror (margin d z) (100 * d) (margin_half ok) (position n i * d) (position n (n + 1 - i) * d) (omega arith)

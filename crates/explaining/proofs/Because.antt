@@ -5,7 +5,7 @@ use mathlib.Core.Bool.{Bool, true, false, cond}
 use mathlib.Core.List.{List}
 use native.Mathlib.Omega.{arith}
 use lib.ListN.{drop, get_or}
-use Rattle.numbered.proofs.Rest.{above_all, numbersOf, other-number}
+use Rattle.numbered.proofs.Rest.{above_all, numbers_of, other_number}
 use Rattle.readings.specs.declared.headers.Version.{Version}
 use Rattle.records.specs.declared.RunHeader.{RunHeader}
 use Rattle.grounds.specs.declared.Ground.{Ground}
@@ -27,7 +27,7 @@ use Rattle.heads.specs.Values.{certificate_of, header}
 use Rattle.parts.specs.Values.{run_at}
 use Rattle.job.specs.declared.Job.{Job}
 use Rattle.job.specs.Places.{run_of}
-use Rattle.job.proofs.ReadJobs.{count-of-certificates, start_of}
+use Rattle.job.proofs.ReadJobs.{count_of_certificates, start_of}
 use Rattle.reduction.specs.declared.Reduced.{Reduced}
 use Rattle.reduction.specs.Reducing.{ClearRun, chosen_in, judged_run}
 use Rattle.explaining.specs.declared.Explanation.{Explanation}
@@ -44,7 +44,7 @@ no_rule_zero part b = refl
 pub beyond_table : (part : Part) (b : Beside) (rule : ℕ) → last_rule < rule → ground_of part b rule ≡ Silent
 unfolding ground_of table
 beyond_table part b rule h =
-    other-number Silent (table part b) rule (above_all last_rule (numbersOf (table part b)) rule refl h)
+    other_number Silent (table part b) rule (above_all last_rule (numbers_of (table part b)) rule refl h)
 
 -- of two grounds that are both nothing, either is
 either_silent : (test : Bool) (g : Ground) → g ≡ Silent → cond test g Silent ≡ Silent
@@ -92,13 +92,13 @@ module _ (fig : Figure) (s : List ℕ) (k rule place : ℕ) where
     kept = ap (λ (r : Reduced). r.ground) is
 
     -- nothing was kept, and the run does not have the finding
-    pub no-finding : done.ground ≡ Silent → NoFinding ≡ explained_run fig s k rule place
-    no-finding none = unbroken (kept_none ground (sym kept ∙ none))
+    pub no_finding_lem : done.ground ≡ Silent → NoFinding ≡ explained_run fig s k rule place
+    no_finding_lem none = unbroken (kept_none ground (sym kept ∙ none))
 
     -- something was, and that is what explains it
-    pub has-finding : (done.ground ≡ Silent → ⊥) → {e : Explanation} → e ≡ explanation_by done.ground (version_of s) (certificate_of s) (certificate_count_of s) (run_of s k) rule place → ◌≡◌ {A = Explained} (Because e) (explained_run fig s k rule place)
+    pub has_finding : (done.ground ≡ Silent → ⊥) → {e : Explanation} → e ≡ explanation_by done.ground (version_of s) (certificate_of s) (certificate_count_of s) (run_of s k) rule place → ◌≡◌ {A = Explained} (Because e) (explained_run fig s k rule place)
     unfolding explained_run explained explanation chosen_in
-    has-finding some ee =
+    has_finding some ee =
         let broke : broken ground ≡ true = kept_some ground (λ none. some (kept ∙ none)) in
         rw (broke, ee, kept, broke)
 
@@ -110,4 +110,4 @@ header_is {s} {j = j} {k = k} ok ev et eh = eh ∙ rw (ev, et, start_of s j ok.j
 -- A finding explained by a ground, from what is read and chosen
 pub put_together : {s t : List ℕ} {v : Version} {j : Job} {k : ℕ} {h : RunHeader} {class : ℕ} {days : Days} (g : Ground) (rule place : ℕ) → ClearRun s j k → v ≡ version_of s → t ≡ drop (get_or j.starts k 0) s → h ≡ header v t → class ≡ class_of v rule → days ≡ days_of v (certificate_of s) j.certificates h rule → ◌≡◌ {A = Explanation} (record { finding = record { rule = rule; class = class; place = place }; round = is_round h.site; ground = g; days = days }) (explanation_by g (version_of s) (certificate_of s) (certificate_count_of s) (run_of s k) rule place)
 put_together {s} {j = j} g rule place ok ev et eh ec ed =
-    rw (ed, ec, header_is ok ev et eh, ev, count-of-certificates s j ok.job)
+    rw (ed, ec, header_is ok ev et eh, ev, count_of_certificates s j ok.job)

@@ -21,7 +21,7 @@ use Rattle.choosing.specs.Choosing.{chosen, chosen_for, Nearest}
 use Rattle.grounds.specs.Comparing.{holds}
 use Rattle.factors.specs.Factor.{factor_moved, lower_if_moved, factor, factor_from, factor_of, coefficient_from, coefficient_of, diameters_from, diameters_of}
 use Rattle.factors.specs.InRange.{CertificatesOk, ChosenOk}
-use Rattle.choosing.proofs.Choosing.{chosen-found}
+use Rattle.choosing.proofs.Choosing.{chosen_found}
 
 -- a reading in range, from least to greatest
 abbrev Within : ℕ → ℕ → ℕ → Type 0
@@ -36,7 +36,7 @@ between (low, high) = known_between low high
 -- What is found is in range, of the kind that was looked for
 found_ok : (after : Bool) (kind : ℕ) (identity : Identity) (day : ℕ) (f : ℕ → Certificate) (n : ℕ) → CertificatesOk f n → (c : Certificate) → chosen after kind identity day f n ≡ Found c → (c.kind ≡ kind) × CertificateOk c
 found_ok after kind identity day f n ok c e =
-    let best : Nearest after kind identity day f n c = chosen-found after kind identity day f n c e in
+    let best : Nearest after kind identity day f n c = chosen_found after kind identity day f n c e in
     (best.eligible.is.kind, rw best.there at (ok.each best.index best.inside))
 
 pub chosen_in_range : (f : ℕ → Certificate) (n : ℕ) (h : RunHeader) → CertificatesOk f n → ChosenOk (chosen_for f n h)

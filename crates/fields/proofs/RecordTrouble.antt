@@ -16,18 +16,18 @@ use Rattle.fields.proofs.FirstTrouble.{told, each, clear_left, clear_right, unle
 -- t is what is left of s from `at` on
 module _ (s : List ℕ) (at size : ℕ) (rows : List Row) {t : List ℕ} (rest : t ≡ drop at s) where
   -- fewer bytes left than the record has
-  pub short-at : length t < size → At incomplete (length s) ≡ record_trouble s at size rows
+  pub short_at : length t < size → At incomplete (length s) ≡ record_trouble s at size rows
   unfolding record_trouble first
-  short-at h = rw (lt-leb size (length (drop at s)) (rw rest at h))
+  short_at h = rw (lt-leb size (length (drop at s)) (rw rest at h))
 
   -- enough of them
-  pub whole-at : size ≤ length t → {own r : Trouble} → own ≡ checks Clear rows → r ≡ from at own → r ≡ record_trouble s at size rows
+  pub whole_at : size ≤ length t → {own r : Trouble} → own ≡ checks Clear rows → r ≡ from at own → r ≡ record_trouble s at size rows
   unfolding record_trouble first
-  whole-at h e f = rw (le-leb size (length (drop at s)) (rw rest at h), ← e) f
+  whole_at h e f = rw (le-leb size (length (drop at s)) (rw rest at h), ← e) f
 
   -- no place of it is out of reach
-  pub reach-at : size ≤ length t → length s < 2 ^ 63 → 1 ≤ size → each (λ n p. leb p size) rows ≡ true → {own : Trouble} → own ≡ checks Clear rows → at + trouble_place own < 2 ^ 64
-  reach-at h long some low {own} e =
+  pub reach_at : size ≤ length t → length s < 2 ^ 63 → 1 ≤ size → each (λ n p. leb p size) rows ≡ true → {own : Trouble} → own ≡ checks Clear rows → at + trouble_place own < 2 ^ 64
+  reach_at h long some low {own} e =
       let reach : trouble_place own ≤ size = rw e (checks_reach size rows low) in
       let left = ap length rest ∙ length-drop at s in
       omega (arith, left)

@@ -29,11 +29,11 @@ few_steps s at e = within_greatest _ _ _ (checks_clear (list_rows s at) e).1.0
 
 module _ (s : List ℕ) (clear : figure_trouble s ≡ Clear) where
   -- each list is clear
-  pub last-clear : checks Clear (list_rows s last_at) ≡ Clear
-  last-clear = clear_left _ _ (clear_right _ _ (sym (figure_parts s) ∙ clear))
+  pub last_clear : checks Clear (list_rows s last_at) ≡ Clear
+  last_clear = clear_left _ _ (clear_right _ _ (sym (figure_parts s) ∙ clear))
 
-  pub next-clear : checks Clear (list_rows s (next_at s)) ≡ Clear
-  next-clear = clear_left _ _ (clear_right _ _ (clear_right _ _ (sym (figure_parts s) ∙ clear)))
+  pub next_clear : checks Clear (list_rows s (next_at s)) ≡ Clear
+  next_clear = clear_left _ _ (clear_right _ _ (clear_right _ _ (sym (figure_parts s) ∙ clear)))
 
 -- Where there can be trouble
 

@@ -14,17 +14,17 @@ use Rattle.lines.specs.Sheet.{lines}
 use Rattle.findings.specs.Listing.{Worked}
 
 module _ (r : Run) (l : Lines) (w : Worked r l) where
-  pub no-volume : l.metering.corrected ≡ 0 → l.metering.dry ≡ Missing
+  pub no_volume : l.metering.corrected ≡ 0 → l.metering.dry ≡ Missing
   unfolding lines metering
-  no-volume e = rw w.is (dry_zero _ _ _ (rw w.is at e))
+  no_volume e = rw w.is (dry_zero _ _ _ (rw w.is at e))
 
-  pub no-moisture : l.metering.dry ≡ Missing → l.stack.velocity ≡ Missing
+  pub no_moisture : l.metering.dry ≡ Missing → l.stack.velocity ≡ Missing
   unfolding lines metering stack
-  no-moisture e = rw w.is (velocity_no_density _ _ (density_missing _ _ (wet_missing _ (moisture_missing _ (rw w.is at e)))))
+  no_moisture e = rw w.is (velocity_no_density _ _ (density_missing _ _ (wet_missing _ (moisture_missing _ (rw w.is at e)))))
 
-  pub no-velocity : l.stack.velocity ≡ Missing → l.sampling.isokinetic ≡ Unworked
+  pub no_velocity : l.stack.velocity ≡ Missing → l.sampling.isokinetic ≡ Unworked
   unfolding lines sampling
-  no-velocity e = rw w.is (isokinetic_no_velocity _ _ _ (rw w.is at e))
+  no_velocity e = rw w.is (isokinetic_no_velocity _ _ _ (rw w.is at e))
 
   pub no_flow : l.stack.velocity ≡ Known 0 → l.sampling.isokinetic ≡ Unworked
   unfolding lines sampling

@@ -11,18 +11,18 @@ use Rattle.records.proofs.Sums.{sum_none, sum_more}
 use Rattle.findings.specs.Listing.{one_of_kind, of_kind}
 
 module _ (kind : ℕ) (ws : List Weighing) where
-  pub kind-none : 0 ≡ of_kind kind ws 0
+  pub kind_none : 0 ≡ of_kind kind ws 0
   unfolding of_kind
-  kind-none = sum_none _
+  kind_none = sum_none _
 
-  pub kind-counted : (n : ℕ) {s : ℕ} → s ≡ of_kind kind ws n → (get_or ws n no_weighing).kind ≡ kind → s + 1 ≡ of_kind kind ws (n + 1)
+  pub kind_counted : (n : ℕ) {s : ℕ} → s ≡ of_kind kind ws n → (get_or ws n no_weighing).kind ≡ kind → s + 1 ≡ of_kind kind ws (n + 1)
   unfolding of_kind
-  kind-counted n {s} e is =
+  kind_counted n {s} e is =
       let one : 1 ≡ one_of_kind kind (get_or ws n no_weighing) = rw (eq-eqb _ _ is) in
       ap (λ (k : ℕ). s + k) one ∙ sum_more (λ i. one_of_kind kind (get_or ws i no_weighing)) n e
 
-  pub kind-passed : (n : ℕ) {s : ℕ} → s ≡ of_kind kind ws n → ((get_or ws n no_weighing).kind ≡ kind → ⊥) → s ≡ of_kind kind ws (n + 1)
+  pub kind_passed : (n : ℕ) {s : ℕ} → s ≡ of_kind kind ws n → ((get_or ws n no_weighing).kind ≡ kind → ⊥) → s ≡ of_kind kind ws (n + 1)
   unfolding of_kind
-  kind-passed n {s} e is =
+  kind_passed n {s} e is =
       let none : 0 ≡ one_of_kind kind (get_or ws n no_weighing) = rw (ne_eqb _ _ is) in
       sym (add-zero s) ∙ ap (λ (k : ℕ). s + k) none ∙ sum_more (λ i. one_of_kind kind (get_or ws i no_weighing)) n e

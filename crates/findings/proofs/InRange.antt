@@ -28,18 +28,18 @@ worked_volume r l w =
 
 module _ (r : Run) (l : Lines) (w : Worked r l) where
   -- the places of a rule about points, segments or weighings are inside the run's list of them
-  pub point-in : {rule i : ℕ} → rule ≡ 10 → i < places_of r.header.counts rule → i < greatest_point_count
-  point-in e h = lt_of_lt_of_le (inside_points _ e h) (within_greatest _ _ _ w.ok.header.points)
+  pub point_in : {rule i : ℕ} → rule ≡ 10 → i < places_of r.header.counts rule → i < greatest_point_count
+  point_in e h = lt_of_lt_of_le (inside_points _ e h) (within_greatest _ _ _ w.ok.header.points)
 
-  pub segment-in : {rule i : ℕ} → rule ≡ 11 → i < places_of r.header.counts rule → i < greatest_segment_count
-  segment-in e h = lt_of_lt_of_le (inside_segments _ e h) (within_greatest _ _ _ w.ok.header.segments)
+  pub segment_in : {rule i : ℕ} → rule ≡ 11 → i < places_of r.header.counts rule → i < greatest_segment_count
+  segment_in e h = lt_of_lt_of_le (inside_segments _ e h) (within_greatest _ _ _ w.ok.header.segments)
 
   -- a run has no more weighings than its list holds
-  pub weighings-in : r.header.counts.weighings ≤ greatest_weighing_count
-  weighings-in = within_greatest _ _ _ w.ok.header.weighings
+  pub weighings_in : r.header.counts.weighings ≤ greatest_weighing_count
+  weighings_in = within_greatest _ _ _ w.ok.header.weighings
 
-  pub weighing-in : {rule i : ℕ} → rule ≡ 17 → i < places_of r.header.counts rule → i < greatest_weighing_count
-  weighing-in e h = lt_of_lt_of_le (inside_weighings _ e h) weighings-in
+  pub weighing_in : {rule i : ℕ} → rule ≡ 17 → i < places_of r.header.counts rule → i < greatest_weighing_count
+  weighing_in e h = lt_of_lt_of_le (inside_weighings _ e h) weighings_in
 
   -- Any rule can be judged beside what it may see of the run
   pub judgeable : (fig : Figure) (ch : Chosen) {beside : Beside} → beside ≡ beside_of fig r ch l → Judgeable beside

@@ -34,7 +34,7 @@ use Rattle.classes.specs.Classes.{places_of}
 use Rattle.rules.specs.Rules.{last_rule, table, ground_of}
 use Rattle.findings.specs.Listing.{part_of, one_of_kind, of_kind, beside_of, broken_at, finding_at, rule_findings, findings_to, findings, lines_for, findings_for, most_findings, Worked}
 use Rattle.findings.proofs.Filling.{rising}
-use Rattle.findings.proofs.Absent.{no-volume, no-moisture, no-velocity, no_flow}
+use Rattle.findings.proofs.Absent.{no_volume, no_moisture, no_velocity, no_flow}
 
 -- one where a rule is broken, and otherwise nothing
 abbrev bit : Bool → ℕ
@@ -46,41 +46,41 @@ bit_le true = le_refl 1
 bit_le false = omega arith
 
 -- how many findings a rule has
-module _ (v : Version) (isBroken : ℕ → ℕ → Bool) (places : ℕ → ℕ) where
+module _ (v : Version) (is_broken : ℕ → ℕ → Bool) (places : ℕ → ℕ) where
   many : ℕ → ℕ
-  many rule = length (rule_findings v (isBroken rule) rule (places rule))
+  many rule = length (rule_findings v (is_broken rule) rule (places rule))
 
-  one_more : (rule i : ℕ) → length (cond (isBroken rule i) (finding_at v rule i ∷ []) []) ≡ bit (isBroken rule i)
-  one_more rule i = go (isBroken rule i)
+  one_more : (rule i : ℕ) → length (cond (is_broken rule i) (finding_at v rule i ∷ []) []) ≡ bit (is_broken rule i)
+  one_more rule i = go (is_broken rule i)
     where
       go : (t : Bool) → length (cond t (finding_at v rule i ∷ []) []) ≡ bit t
       go true = refl
       go false = refl
 
   -- no more than it has places
-  upto : (rule n : ℕ) → length (rule_findings v (isBroken rule) rule n) ≤ n
+  upto : (rule n : ℕ) → length (rule_findings v (is_broken rule) rule n) ≤ n
   unfolding rule_findings
   upto rule zero = le_refl 0
   upto rule (suc n) =
-      let more = length-append (rule_findings v (isBroken rule) rule n) (cond (isBroken rule n) (finding_at v rule n ∷ []) []) in
-      omega (arith, more, one_more rule n, bit_le (isBroken rule n), upto rule n)
+      let more = length-append (rule_findings v (is_broken rule) rule n) (cond (is_broken rule n) (finding_at v rule n ∷ []) []) in
+      omega (arith, more, one_more rule n, bit_le (is_broken rule n), upto rule n)
 
-  many-le : (rule : ℕ) → many rule ≤ places rule
+  many_le : (rule : ℕ) → many rule ≤ places rule
   unfolding many
-  many-le rule = upto rule (places rule)
+  many_le rule = upto rule (places rule)
 
   -- a rule about the whole run
-  many-whole : (rule : ℕ) → places rule ≡ 1 → many rule ≡ bit (isBroken rule 0)
+  many_whole : (rule : ℕ) → places rule ≡ 1 → many rule ≡ bit (is_broken rule 0)
   unfolding many rule_findings
-  many-whole rule e = rw e (one_more rule 0)
+  many_whole rule e = rw e (one_more rule 0)
 
   -- all of them
-  many-all : (k : ℕ) → length (findings_to v isBroken places k) ≡ sum_to (λ i. many (i + 1)) k
+  many_all : (k : ℕ) → length (findings_to v is_broken places k) ≡ sum_to (λ i. many (i + 1)) k
   unfolding many findings_to sum_to
-  many-all zero = refl
-  many-all (suc k) =
-      length-append (findings_to v isBroken places k) (rule_findings v (isBroken (k + 1)) (k + 1) (places (k + 1)))
-      ∙ ap (λ (n : ℕ). n + length (rule_findings v (isBroken (k + 1)) (k + 1) (places (k + 1)))) (many-all k)
+  many_all zero = refl
+  many_all (suc k) =
+      length-append (findings_to v is_broken places k) (rule_findings v (is_broken (k + 1)) (k + 1) (places (k + 1)))
+      ∙ ap (λ (n : ℕ). n + length (rule_findings v (is_broken (k + 1)) (k + 1) (places (k + 1)))) (many_all k)
 
 -- 3 and 6: without a nozzle certificate there is no diameter to compare
 nozzle_once : (n : Lookup) → bit (broken (missing n)) + bit (broken (uneven n)) ≤ 1
@@ -124,15 +124,15 @@ percent_once (Exact n) = go (dec_le n.quotient least_isokinetic)
     sixteen : Bool
     sixteen = holds (deciding (compare_exactly q n.remainder Above greatest_isokinetic))
 
-    not-sixteen : q ≤ least_isokinetic → sixteen ≡ false
-    not-sixteen low = rw (ne_eqb q greatest_isokinetic (omega arith)) (le-ltb greatest_isokinetic q (omega arith))
+    not_sixteen : q ≤ least_isokinetic → sixteen ≡ false
+    not_sixteen low = rw (ne_eqb q greatest_isokinetic (omega arith)) (le-ltb greatest_isokinetic q (omega arith))
 
-    not-fifteen : least_isokinetic < q → fifteen ≡ false
-    not-fifteen high = rw (ne_eqb q least_isokinetic (omega arith)) (le-ltb q least_isokinetic (omega arith))
+    not_fifteen : least_isokinetic < q → fifteen ≡ false
+    not_fifteen high = rw (ne_eqb q least_isokinetic (omega arith)) (le-ltb q least_isokinetic (omega arith))
 
     go : Dec (q ≤ least_isokinetic) → bit fifteen + bit sixteen ≤ 1
-    go (yes low) = rw (not-sixteen low) (omega (arith, bit_le fifteen))
-    go (no high) = rw (not-fifteen (lt_of_not-le high)) (omega (arith, bit_le sixteen))
+    go (yes low) = rw (not_sixteen low) (omega (arith, bit_le fifteen))
+    go (no high) = rw (not_fifteen (lt_of_not-le high)) (omega (arith, bit_le sixteen))
 
 percent_missing : (v : Ratio) → v ≡ Unworked → bit (broken (ratio_against v Below least_isokinetic)) + bit (broken (ratio_against v Above greatest_isokinetic)) ≡ 0
 unfolding broken ratio_against
@@ -156,76 +156,76 @@ weighed_once ws n many few le kinds = go (dec_le 1 n)
     first : ℕ
     first = (get_or ws 0 no_weighing).kind
 
-    no-filter : ℕ
-    no-filter = bit (broken (lacking (of_kind filter_kind ws n)))
+    no_filter : ℕ
+    no_filter = bit (broken (lacking (of_kind filter_kind ws n)))
 
-    no-rinse : ℕ
-    no-rinse = bit (broken (lacking (of_kind rinse_kind ws n)))
+    no_rinse : ℕ
+    no_rinse = bit (broken (lacking (of_kind rinse_kind ws n)))
 
-    filter : 1 ≤ n → first ≡ filter_kind → many + no-filter + no-rinse ≤ greatest_weighing_count + 1
+    filter : 1 ≤ n → first ≡ filter_kind → many + no_filter + no_rinse ≤ greatest_weighing_count + 1
     filter some e =
         rw (not_lacking _ (kind_some filter_kind ws n some e)) (omega (arith, bit_le (broken (lacking (of_kind rinse_kind ws n)))))
 
-    rinse : 1 ≤ n → first ≡ rinse_kind → many + no-filter + no-rinse ≤ greatest_weighing_count + 1
+    rinse : 1 ≤ n → first ≡ rinse_kind → many + no_filter + no_rinse ≤ greatest_weighing_count + 1
     rinse some e =
         rw (not_lacking _ (kind_some rinse_kind ws n some e)) (omega (arith, bit_le (broken (lacking (of_kind filter_kind ws n)))))
 
-    either : 1 ≤ n → Dec (first ≤ filter_kind) → (filter_kind ≤ first) × (first ≤ rinse_kind) → many + no-filter + no-rinse ≤ greatest_weighing_count + 1
+    either : 1 ≤ n → Dec (first ≤ filter_kind) → (filter_kind ≤ first) × (first ≤ rinse_kind) → many + no_filter + no_rinse ≤ greatest_weighing_count + 1
     either some (yes low) range = filter some (omega arith)
     either some (no high) range = rinse some (omega arith)
 
-    go : Dec (1 ≤ n) → many + no-filter + no-rinse ≤ greatest_weighing_count + 1
+    go : Dec (1 ≤ n) → many + no_filter + no_rinse ≤ greatest_weighing_count + 1
     go (yes some) = either some (dec_le first filter_kind) (kinds 0 some)
     go (no none) =
         omega (arith, bit_le (broken (lacking (of_kind filter_kind ws n))), bit_le (broken (lacking (of_kind rinse_kind ws n))))
 
 module _ (v : Version) (fig : Figure) (r : Run) (ch : Chosen) (l : Lines) (w : Worked r l) where
   -- rules 12 to 16 together
-  lines-once : bit (broken_at fig r ch l 12 0) + (bit (broken_at fig r ch l 14 0) + (bit (broken_at fig r ch l 15 0) + bit (broken_at fig r ch l 16 0))) ≤ 1
+  lines_once : bit (broken_at fig r ch l 12 0) + (bit (broken_at fig r ch l 14 0) + (bit (broken_at fig r ch l 15 0) + bit (broken_at fig r ch l 16 0))) ≤ 1
   unfolding beside_of broken_at table ground_of
-  lines-once =
+  lines_once =
       zero_once _ _ (zero_once _ _ (percent_once _) (λ e. percent_missing _ (no_flow r l w e)))
       (λ e.
       let no-volume-drawn : l.metering.corrected ≡ 0 = cc in
-      after-velocity (no-moisture r l w (no-volume r l w no-volume-drawn)))
+      after_velocity (no_moisture r l w (no_volume r l w no-volume-drawn)))
     where
-      after-velocity : l.stack.velocity ≡ Missing → bit (broken (line_against l.stack.velocity Same 0)) + (bit (broken (ratio_against l.sampling.isokinetic Below least_isokinetic)) + bit (broken (ratio_against l.sampling.isokinetic Above greatest_isokinetic))) ≡ 0
-      after-velocity e = zero_missing _ _ e (percent_missing _ (no-velocity r l w e))
+      after_velocity : l.stack.velocity ≡ Missing → bit (broken (line_against l.stack.velocity Same 0)) + (bit (broken (ratio_against l.sampling.isokinetic Below least_isokinetic)) + bit (broken (ratio_against l.sampling.isokinetic Above greatest_isokinetic))) ≡ 0
+      after_velocity e = zero_missing _ _ e (percent_missing _ (no_velocity r l w e))
 
   -- how many findings rule number `rule` has
   has : ℕ → ℕ
   has rule = many v (broken_at fig r ch l) (places_of r.header.counts) rule
 
-  has-le : (rule : ℕ) → has rule ≤ places_of r.header.counts rule
+  has_le : (rule : ℕ) → has rule ≤ places_of r.header.counts rule
   unfolding has
-  has-le rule = many-le v (broken_at fig r ch l) (places_of r.header.counts) rule
+  has_le rule = many_le v (broken_at fig r ch l) (places_of r.header.counts) rule
 
-  has-whole : (rule : ℕ) → places_of r.header.counts rule ≡ 1 → has rule ≡ bit (broken_at fig r ch l rule 0)
+  has_whole : (rule : ℕ) → places_of r.header.counts rule ≡ 1 → has rule ≡ bit (broken_at fig r ch l rule 0)
   unfolding has
-  has-whole rule e = many-whole v (broken_at fig r ch l) (places_of r.header.counts) rule e
+  has_whole rule e = many_whole v (broken_at fig r ch l) (places_of r.header.counts) rule e
 
-  three-and-six : has 3 + has 6 ≤ 1
+  three_and_six : has 3 + has 6 ≤ 1
   unfolding places_of beside_of broken_at table ground_of
-  three-and-six = rw (has-whole 3 refl, has-whole 6 refl) (nozzle_once ch.nozzle)
+  three_and_six = rw (has_whole 3 refl, has_whole 6 refl) (nozzle_once ch.nozzle)
 
-  four-and-five : has 4 + has 5 ≤ 1
+  four_and_five : has 4 + has 5 ≤ 1
   unfolding places_of beside_of broken_at table ground_of
-  four-and-five = rw (has-whole 4 refl, has-whole 5 refl) (factor_once ch.before ch.after)
+  four_and_five = rw (has_whole 4 refl, has_whole 5 refl) (factor_once ch.before ch.after)
 
-  twelve-to-sixteen : has 12 + (has 14 + (has 15 + has 16)) ≤ 1
+  twelve_to_sixteen : has 12 + (has 14 + (has 15 + has 16)) ≤ 1
   unfolding places_of
-  twelve-to-sixteen = rw (has-whole 12 refl, has-whole 14 refl, has-whole 15 refl, has-whole 16 refl) lines-once
+  twelve_to_sixteen = rw (has_whole 12 refl, has_whole 14 refl, has_whole 15 refl, has_whole 16 refl) lines_once
 
   -- a number without a rule has none
-  no-thirteen : has 13 ≡ 0
+  no_thirteen : has 13 ≡ 0
   unfolding places_of broken_at broken table ground_of
-  no-thirteen = rw (has-whole 13 refl)
+  no_thirteen = rw (has_whole 13 refl)
 
-  seventeen-to-nineteen : has 17 + has 18 + has 19 ≤ greatest_weighing_count + 1
+  seventeen_to_nineteen : has 17 + has 18 + has 19 ≤ greatest_weighing_count + 1
   unfolding places_of beside_of broken_at table ground_of
-  seventeen-to-nineteen =
-      rw (has-whole 18 refl, has-whole 19 refl)
-      (weighed_once r.weighings r.header.counts.weighings (has 17) (within_greatest _ _ _ w.ok.header.weighings) (has-le 17)
+  seventeen_to_nineteen =
+      rw (has_whole 18 refl, has_whole 19 refl)
+      (weighed_once r.weighings r.header.counts.weighings (has 17) (within_greatest _ _ _ w.ok.header.weighings) (has_le 17)
       (λ i inside.
       let kind = (w.ok.weighings i inside).kind in
       (within_least _ _ _ kind, within_greatest _ _ _ kind)))
@@ -235,20 +235,20 @@ module _ (v : Version) (fig : Figure) (r : Run) (ch : Chosen) (l : Lines) (w : W
   all_fit =
       let points : r.header.counts.points ≤ greatest_point_count = within_greatest _ _ _ w.ok.header.points in
       let segments : r.header.counts.segments ≤ greatest_segment_count = within_greatest _ _ _ w.ok.header.segments in
-      let ten : has 10 ≤ r.header.counts.points = has-le 10 in
-      let eleven : has 11 ≤ r.header.counts.segments = has-le 11 in
-      let one : has 1 ≤ 1 = has-le 1 in
-      let two : has 2 ≤ 1 = has-le 2 in
-      let seven : has 7 ≤ 1 = has-le 7 in
-      let eight : has 8 ≤ 1 = has-le 8 in
-      let nine : has 9 ≤ 1 = has-le 9 in
-      let twenty : has 20 ≤ 1 = has-le 20 in
-      omega (arith, many-all v (broken_at fig r ch l) (places_of r.header.counts) last_rule, three-and-six, four-and-five, twelve-to-sixteen, no-thirteen, seventeen-to-nineteen)
+      let ten : has 10 ≤ r.header.counts.points = has_le 10 in
+      let eleven : has 11 ≤ r.header.counts.segments = has_le 11 in
+      let one : has 1 ≤ 1 = has_le 1 in
+      let two : has 2 ≤ 1 = has_le 2 in
+      let seven : has 7 ≤ 1 = has_le 7 in
+      let eight : has 8 ≤ 1 = has_le 8 in
+      let nine : has 9 ≤ 1 = has_le 9 in
+      let twenty : has 20 ≤ 1 = has_le 20 in
+      omega (arith, many_all v (broken_at fig r ch l) (places_of r.header.counts) last_rule, three_and_six, four_and_five, twelve_to_sixteen, no_thirteen, seventeen_to_nineteen)
 
   -- the same where what stands beside is known only to be the run's
-  pub all-fit-beside : {beside : Beside} → beside ≡ beside_of fig r ch l → length (findings_to v (λ rule i. broken (ground_of (part_of r rule i) beside rule)) (places_of r.header.counts) last_rule) ≤ most_findings
+  pub all_fit_beside : {beside : Beside} → beside ≡ beside_of fig r ch l → length (findings_to v (λ rule i. broken (ground_of (part_of r rule i) beside rule)) (places_of r.header.counts) last_rule) ≤ most_findings
   unfolding broken_at
-  all-fit-beside is = rw is all_fit
+  all_fit_beside is = rw is all_fit
 
   -- At most 98 findings
   pub at_most : length (findings v fig r ch l) ≤ most_findings

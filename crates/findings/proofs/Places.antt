@@ -22,19 +22,19 @@ unfolding places_of
 inside_weighings n e h = rw e at h
 
 module _ (r : Run) {rule : ℕ} (i : ℕ) where
-  pub part-point : rule ≡ 10 → OnePoint (point_of r i) ≡ part_of r rule i
+  pub part_point : rule ≡ 10 → OnePoint (point_of r i) ≡ part_of r rule i
   unfolding part_of
-  part-point e = rw e
+  part_point e = rw e
 
-  pub part-segment : rule ≡ 11 → OneSegment (segment_of r i) ≡ part_of r rule i
+  pub part_segment : rule ≡ 11 → OneSegment (segment_of r i) ≡ part_of r rule i
   unfolding part_of
-  part-segment e = rw e
+  part_segment e = rw e
 
-  pub part-weighing : rule ≡ 17 → OneWeighing (weighing_of r i) ≡ part_of r rule i
+  pub part_weighing : rule ≡ 17 → OneWeighing (weighing_of r i) ≡ part_of r rule i
   unfolding part_of
-  part-weighing e = rw e
+  part_weighing e = rw e
 
-  pub part-whole : (rule ≡ 10 → ⊥) → (rule ≡ 11 → ⊥) → (rule ≡ 17 → ⊥) → Whole ≡ part_of r rule i
+  pub part_whole : (rule ≡ 10 → ⊥) → (rule ≡ 11 → ⊥) → (rule ≡ 17 → ⊥) → Whole ≡ part_of r rule i
   unfolding part_of
-  part-whole not-ten not-eleven not-seventeen =
+  part_whole not-ten not-eleven not-seventeen =
       rw (ne_eqb _ _ not-ten, ne_eqb _ _ not-eleven, ne_eqb _ _ not-seventeen)

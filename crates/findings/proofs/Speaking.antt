@@ -40,14 +40,14 @@ silent_stands e h = true≢false (sym (rw (← e) at h))
 
 module _ (fig : Figure) (r : Run) (ch : Chosen) (l : Lines) (rule place : ℕ) where
   -- behind the last of its places
-  silent-behind : places_of r.header.counts rule ≤ index_of place → Silent ≡ ground_at fig r ch l rule place
+  silent_behind : places_of r.header.counts rule ≤ index_of place → Silent ≡ ground_at fig r ch l rule place
   unfolding ground_at
-  silent-behind h = rw (le-ltb _ _ h)
+  silent_behind h = rw (le-ltb _ _ h)
 
   -- where its places are counted otherwise
-  silent-elsewhere : (place ≡ place_at rule (index_of place) → ⊥) → Silent ≡ ground_at fig r ch l rule place
+  silent_elsewhere : (place ≡ place_at rule (index_of place) → ⊥) → Silent ≡ ground_at fig r ch l rule place
   unfolding ground_at
-  silent-elsewhere h = rw (ne_eqb _ _ h, and_false (ltb (index_of place) (places_of r.header.counts rule)))
+  silent_elsewhere h = rw (ne_eqb _ _ h, and_false (ltb (index_of place) (places_of r.header.counts rule)))
 
   -- it speaks of the place
   pub spoken : index_of place < places_of r.header.counts rule → place ≡ place_at rule (index_of place) → ground_of (part_of r rule (index_of place)) (beside_of fig r ch l) rule ≡ ground_at fig r ch l rule place
@@ -56,20 +56,20 @@ module _ (fig : Figure) (r : Run) (ch : Chosen) (l : Lines) (rule place : ℕ) w
 
   -- a rule that is broken at a place speaks of it
   module _ (is : broken (ground_at fig r ch l rule place) ≡ true) where
-    pub spoken-inside : index_of place < places_of r.header.counts rule
-    spoken-inside = go (ltb (index_of place) (places_of r.header.counts rule)) refl
+    pub spoken_inside : index_of place < places_of r.header.counts rule
+    spoken_inside = go (ltb (index_of place) (places_of r.header.counts rule)) refl
       where
         go : (b : Bool) → ltb (index_of place) (places_of r.header.counts rule) ≡ b → index_of place < places_of r.header.counts rule
         go true e = ltb-true _ _ e
-        go false e = absurd (silent_stands (silent-behind (ltb-false _ _ e)) is)
+        go false e = absurd (silent_stands (silent_behind (ltb-false _ _ e)) is)
 
-    pub spoken-there : place ≡ place_at rule (index_of place)
-    spoken-there = go (eqb place (place_at rule (index_of place))) refl
+    pub spoken_there : place ≡ place_at rule (index_of place)
+    spoken_there = go (eqb place (place_at rule (index_of place))) refl
       where
         go : (b : Bool) → eqb place (place_at rule (index_of place)) ≡ b → place ≡ place_at rule (index_of place)
         go true e = eqb-true _ _ e
-        go false e = absurd (silent_stands (silent-elsewhere (eqb-false _ _ e)) is)
+        go false e = absurd (silent_stands (silent_elsewhere (eqb-false _ _ e)) is)
 
-    pub spoken-broken : broken_at fig r ch l rule (index_of place) ≡ true
+    pub spoken_broken : broken_at fig r ch l rule (index_of place) ≡ true
     unfolding broken_at
-    spoken-broken = rw (spoken spoken-inside spoken-there) is
+    spoken_broken = rw (spoken spoken_inside spoken_there) is

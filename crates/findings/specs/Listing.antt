@@ -61,14 +61,14 @@ finding_at v rule i = record { rule = rule; class = class_of v rule; place = pla
 
 -- a rule's findings at its first n places, by place
 unfoldable pub rule_findings : Version → (ℕ → Bool) → ℕ → ℕ → List Finding
-rule_findings v isBroken rule zero = []
-rule_findings v isBroken rule (suc i) = rule_findings v isBroken rule i ++ cond (isBroken i) (finding_at v rule i ∷ []) []
+rule_findings v is_broken rule zero = []
+rule_findings v is_broken rule (suc i) = rule_findings v is_broken rule i ++ cond (is_broken i) (finding_at v rule i ∷ []) []
 
 -- the findings of rules 1 to k, by rule and then by place
 unfoldable pub findings_to : Version → (ℕ → ℕ → Bool) → (ℕ → ℕ) → ℕ → List Finding
-findings_to v isBroken places zero = []
-findings_to v isBroken places (suc k) =
-    findings_to v isBroken places k ++ rule_findings v (isBroken (k + 1)) (k + 1) (places (k + 1))
+findings_to v is_broken places zero = []
+findings_to v is_broken places (suc k) =
+    findings_to v is_broken places k ++ rule_findings v (is_broken (k + 1)) (k + 1) (places (k + 1))
 
 -- The findings of a run of a job of that version, judged by that figure
 unfoldable pub findings : Version → Figure → Run → Chosen → Lines → List Finding

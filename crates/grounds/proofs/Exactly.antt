@@ -41,11 +41,11 @@ exactly way n d q r limit parts rest = go (dec_lt q limit) (dec_lt limit q)
         let next : a + 1 ≤ b = omega arith in
         omega (arith, mul-le-mul_right d next, add-mul a 1 d)
 
-    by-remainder : q ≡ limit → Dec (0 < r) → stands_to way r 0 ≡ stands_to way n (limit * d)
-    by-remainder is (yes more) =
+    by_remainder : q ≡ limit → Dec (0 < r) → stands_to way r 0 ≡ stands_to way n (limit * d)
+    by_remainder is (yes more) =
         let same : q * d ≡ limit * d = ap (λ k. k * d) is in
         higher way r 0 more ∙ sym (higher way n (limit * d) (omega (arith, parts)))
-    by-remainder is (no none) =
+    by_remainder is (no none) =
         let same : q * d ≡ limit * d = ap (λ k. k * d) is in
         level way r 0 (omega (arith, none)) ∙ sym (level way n (limit * d) (omega (arith, none, parts)))
 
@@ -56,4 +56,4 @@ exactly way n d q r limit parts rest = go (dec_lt q limit) (dec_lt limit q)
         rw (ne_eqb q limit (omega arith)) (higher way q limit high ∙ sym (higher way n (limit * d) (omega (arith, within high, parts))))
     go (no f) (no g) =
         let is : q ≡ limit = omega (arith, f, g) in
-        rw (eq-eqb q limit is) (by-remainder is (dec_lt 0 r))
+        rw (eq-eqb q limit is) (by_remainder is (dec_lt 0 r))

@@ -35,15 +35,15 @@ unfolding run_trouble parts_trouble
 run_clear s start lower e =
     let after = clear_right _ _ e in
     let parts = clear_right _ _ after in
-    let after-points = clear_right _ _ parts in
-    let after-segments = clear_right _ _ after-points in
-    let seconds = unless_clear _ _ _ (clear_right _ _ after-segments) in
+    let after_points = clear_right _ _ parts in
+    let after_segments = clear_right _ _ after_points in
+    let seconds = unless_clear _ _ _ (clear_right _ _ after_segments) in
     record {
       header = clear_left _ _ e;
       above = ltb-true _ _ (unless_clear _ _ _ (clear_left _ _ after));
       points = clear_left _ _ parts;
-      segments = clear_left _ _ after-points;
-      weighings = clear_left _ _ after-segments;
+      segments = clear_left _ _ after_points;
+      weighings = clear_left _ _ after_segments;
       total = both_left _ _ seconds;
       balanced = eqb-true _ _ (both_right (total_seconds (point_total s start (header_at s start).counts)) _ seconds);
     }

@@ -38,14 +38,14 @@ module _ {m : ℕ} where
   first_reach Clear u h later = later refl
   first_reach (At n p) u h later = h
 
-  unless-reach : (ok : Bool) (n p : ℕ) → p ≤ m → trouble_place (trouble_unless ok n p) ≤ m
-  unless-reach true n p h = omega arith
-  unless-reach false n p h = h
+  unless_reach : (ok : Bool) (n p : ℕ) → p ≤ m → trouble_place (trouble_unless ok n p) ≤ m
+  unless_reach true n p h = omega arith
+  unless_reach false n p h = h
 
-  up-reach : (f : ℕ → Trouble) (n : ℕ) → ((i : ℕ) → i < n → up_to f i ≡ Clear → trouble_place (f i) ≤ m) → trouble_place (up_to f n) ≤ m
+  up_reach : (f : ℕ → Trouble) (n : ℕ) → ((i : ℕ) → i < n → up_to f i ≡ Clear → trouble_place (f i) ≤ m) → trouble_place (up_to f n) ≤ m
   unfolding up_to
-  up-reach f zero h = omega arith
-  up-reach f (suc n) h = first_reach (up_to f n) (f n) (up-reach f n (λ i l. h i (lt_trans l (lt-suc_self n)))) (h n (lt-suc_self n))
+  up_reach f zero h = omega arith
+  up_reach f (suc n) h = first_reach (up_to f n) (f n) (up_reach f n (λ i l. h i (lt_trans l (lt-suc_self n)))) (h n (lt-suc_self n))
 
 from_reach : (start m : ℕ) (t : Trouble) → trouble_place t ≤ m → trouble_place (from start t) ≤ start + m
 from_reach start m Clear h = omega arith
@@ -69,7 +69,7 @@ row_reach :
     → at + size * n ≤ m
     → trouble_place (up_to (λ i. record_trouble s (at + size * i) size (rows i)) n) ≤ m
 row_reach s at size rows n {m} low room =
-    up-reach _ n
+    up_reach _ n
     (λ i h clear.
     let below : size * suc i ≤ size * n = mul-le-mul_left size h in
     record_reach s (at + size * i) size (rows i) (low i) (omega (arith, mul-suc size i)))
@@ -102,14 +102,14 @@ run_reach s start lower {m} room =
     let n = h.counts in
     let parts = few_parts s start header in
     let more = few v 3 in
-    first_reach _ _ (unless-reach (ltb lower (header_at s start).number) repeated start (omega arith))
+    first_reach _ _ (unless_reach (ltb lower (header_at s start).number) repeated start (omega arith))
     (λ above.
     first_reach _ _ (row_reach s _ point_size _ n.points (λ i. refl) (omega arith))
     (λ points.
     first_reach _ _ (row_reach s _ segment_size _ n.segments (λ i. refl) (omega arith))
     (λ segments.
     first_reach _ _ (row_reach s _ weighing_size _ n.weighings (λ i. refl) (omega arith))
-    (λ weighings. unless-reach (good_seconds s start n) wrong_seconds start (omega arith))))))
+    (λ weighings. unless_reach (good_seconds s start n) wrong_seconds start (omega arith))))))
 
 -- where a run starts if those before it are clear: after the header, at most 64 certificates and those runs
 pub start_reach : (s : List ℕ) → file_trouble s ≡ Clear → (k : ℕ) → runs_trouble s k ≡ Clear → run_start s k ≤ certificate_place Two greatest_certificate_count + longest_run * k
@@ -126,7 +126,7 @@ entry_reach : (s : List ℕ) (k : ℕ) {m : ℕ} → certificate_place (version_
 entry_reach s k room =
     let v = version_of s in
     first_reach _ _ (record_reach s (certificate_place v k) (certificate_size v) _ (certificate_within v (certificate_of s k)) room)
-    (λ own. unless-reach (not (repeats s k)) repeated (certificate_place v k) (omega arith))
+    (λ own. unless_reach (not (repeats s k)) repeated (certificate_place v k) (omega arith))
 
 job_reach : (s : List ℕ) → trouble_place (job_trouble s) ≤ longest_job
 unfolding job_trouble
@@ -135,10 +135,10 @@ job_reach s =
     (λ file.
     let certificates = certificate_count_lem s file in
     let runs = run_count_lem s file in
-    first_reach _ _ (up-reach (entry_trouble s) _ (λ k h clear. entry_reach s k (omega (arith, few (version_of s) k, few (version_of s) 1))))
+    first_reach _ _ (up_reach (entry_trouble s) _ (λ k h clear. entry_reach s k (omega (arith, few (version_of s) k, few (version_of s) 1))))
     (λ held.
-    first_reach _ _ (up-reach _ _ (λ k h clear. run_reach s (run_start s k) (number_before s k) (omega (arith, start_reach s file k clear))))
-    (λ walked. unless-reach (leb (length s) (run_start s (run_count_of s))) left_over _ (omega (arith, start_reach s file _ walked)))))
+    first_reach _ _ (up_reach _ _ (λ k h clear. run_reach s (run_start s k) (number_before s k) (omega (arith, start_reach s file k clear))))
+    (λ walked. unless_reach (leb (length s) (run_start s (run_count_of s))) left_over _ (omega (arith, start_reach s file _ walked)))))
 
 pub places : (s : List ℕ) {n p : ℕ} → job_trouble s ≡ At n p → p ≤ longest_job
 places s e = subst (λ (t : Trouble). trouble_place t ≤ longest_job) e (job_reach s)

@@ -5,7 +5,7 @@ use mathlib.Core.List.{List}
 use native.Mathlib.Omega.{arith}
 use lib.ListN.{length, get_or, drop}
 use Rattle.readings.specs.Ranges.{greatest_run_count}
-use Rattle.arrays.proofs.Arrays.{pad-at}
+use Rattle.arrays.proofs.Arrays.{pad_at}
 use Rattle.fields.specs.declared.trouble.Trouble.{Trouble}
 use Rattle.fields.specs.declared.trouble.Trouble.TheVariants.{Clear, At}
 use Rattle.fields.proofs.Tails.{enough}
@@ -47,25 +47,25 @@ module _ (s : List ℕ) (j : Job) (ok : ClearJob s j) where
   unfolding read_job
   whole = ok.is ∙ ap (λ t. job_of t s) ok.clear
 
-  pub count-of-runs : j.runs ≡ run_count_of s
-  count-of-runs = ap (λ (i : Job). i.runs) whole
+  pub count_of_runs : j.runs ≡ run_count_of s
+  count_of_runs = ap (λ (i : Job). i.runs) whole
 
-  pub count-of-certificates : j.certificates ≡ certificate_count_of s
-  count-of-certificates = ap (λ (i : Job). i.certificates) whole
+  pub count_of_certificates : j.certificates ≡ certificate_count_of s
+  count_of_certificates = ap (λ (i : Job). i.certificates) whole
 
-  pub few-runs : j.runs ≤ greatest_run_count
-  few-runs = rw count-of-runs (run_count_lem s (job_clear s ok.clear).file)
+  pub few_runs : j.runs ≤ greatest_run_count
+  few_runs = rw count_of_runs (run_count_lem s (job_clear s ok.clear).file)
 
   pub start_of : (k : ℕ) → k < run_count_of s → get_or j.starts k 0 ≡ run_start s k
   start_of k inside =
       ap (λ (i : Job). get_or i.starts k 0) whole
-      ∙ pad-at greatest_run_count 0 (run_start s) (run_count_of s) k inside (run_count_lem s (job_clear s ok.clear).file)
+      ∙ pad_at greatest_run_count 0 (run_start s) (run_count_of s) k inside (run_count_lem s (job_clear s ok.clear).file)
 
   -- its runs lie within the file
   pub lies_within : (k : ℕ) → k < run_count_of s → RunWithin s (get_or j.starts k 0)
   lies_within k inside = subst⁻¹ (RunWithin s) (start_of k inside) (run_within s ok.clear k inside)
 
   -- so that the number of each can be read
-  pub number-left : (k : ℕ) → k < j.runs → {t : List ℕ} → t ≡ drop (get_or j.starts k 0) s → 2 ≤ length t
-  number-left k inside e =
-      enough s (get_or j.starts k 0) 2 e (omega (arith, (lies_within k (rw count-of-runs at inside)).end))
+  pub number_left : (k : ℕ) → k < j.runs → {t : List ℕ} → t ≡ drop (get_or j.starts k 0) s → 2 ≤ length t
+  number_left k inside e =
+      enough s (get_or j.starts k 0) 2 e (omega (arith, (lies_within k (rw count_of_runs at inside)).end))

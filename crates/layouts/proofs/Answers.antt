@@ -38,12 +38,12 @@ inside ds room e a = rw e a
 
 -- an array that holds a list's distances has no more of them than it holds, and they are its front
 module _ {ds : List ℕ} {l : Layout} (h : IsLayout ds l) (long : length l.distances ≡ most_distances) where
-  pub held-few : l.count ≤ most_distances
+  pub held_few : l.count ≤ most_distances
   unfolding filled_to
-  held-few =
+  held_few =
       let all = ap length (sym h.distances) ∙ long in
       let size : length ds ≤ most_distances = omega (arith, length-append ds (replicate (most_distances - length ds) 0), all) in
       omega (arith, h.count)
 
-  pub held-front : take l.count l.distances ≡ ds
-  held-front = rw (h.distances, h.count) (filled_front most_distances 0 ds)
+  pub held_front : take l.count l.distances ≡ ds
+  held_front = rw (h.distances, h.count) (filled_front most_distances 0 ds)

@@ -7,8 +7,8 @@ use Rattle.records.specs.InRange.{RunOk}
 use Rattle.stack.specs.Promise.{TraverseOk}
 
 module _ (r : Run) (ok : RunOk r) where
-  pub traverse-ok : TraverseOk r.points r.header.counts.points
-  traverse-ok =
+  pub traverse_ok : TraverseOk r.points r.header.counts.points
+  traverse_ok =
       record {
         some = within_least _ _ _ ok.header.points;
         few = within_greatest _ _ _ ok.header.points;
@@ -16,5 +16,5 @@ module _ (r : Run) (ok : RunOk r) where
         temperatures = λ i inside. (ok.points i inside).stack;
       }
 
-  pub gas-range : r.header.co2 + r.header.o2 ≤ greatest_with_co2
-  gas-range = within_greatest _ _ _ ok.header.o2
+  pub gas_range : r.header.co2 + r.header.o2 ≤ greatest_with_co2
+  gas_range = within_greatest _ _ _ ok.header.o2

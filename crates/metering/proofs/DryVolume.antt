@@ -15,8 +15,8 @@ use Rattle.values.specs.Signed.{add_scaled}
 use Rattle.metering.specs.Metering.{mean_orifice, meter_temperature, metering}
 use Rattle.metering.specs.Promise.{least_meter_pressure, least_meter_rankine, greatest_meter_rankine, least_dry_volume}
 use Rattle.metering.proofs.Cases.{dry_known}
-use Rattle.metering.proofs.Passes.{is-orifice, is_meter_pressure, is-meter-temperature}
-use Rattle.metering.proofs.RunInRange.{points-ok, pb-range}
+use Rattle.metering.proofs.Passes.{is_orifice, is_meter_pressure, is_meter_temperature}
+use Rattle.metering.proofs.RunInRange.{points_ok, pb_range}
 
 -- its equation: the numerator is half the denominator at least in the corner of the ranges where it is smallest, and so anywhere
 pub dry_least : {corrected y pressure temperature : ℕ} → 1 ≤ corrected → least_factor ≤ y → least_meter_pressure ≤ pressure → least_meter_rankine ≤ temperature → temperature ≤ greatest_meter_rankine → least_dry_volume ≤ round_div (1764 * corrected * y * pressure) (10 ^ 9 * temperature)
@@ -29,8 +29,8 @@ dry_least some factor low cold warm =
 pub dry_some : (r : Run) (y : ℕ) → RunOk r → least_factor ≤ y → 1 ≤ (metering r (Known y)).corrected → (d : ℕ) × (((metering r (Known y)).dry ≡ Known d) × (least_dry_volume ≤ d))
 unfolding metering mean_orifice meter_temperature
 dry_some r y ok factor some =
-    let pb = pb-range r ok in
-    let orifice = is-orifice r.points _ _ (points-ok r ok) refl refl in
+    let pb = pb_range r ok in
+    let orifice = is_orifice r.points _ _ (points_ok r ok) refl refl in
     let pressure = is_meter_pressure r.header.pb _ pb.0 pb.1 orifice.high refl in
-    let temperature = is-meter-temperature r.points _ _ (points-ok r ok) refl refl in
+    let temperature = is_meter_temperature r.points _ _ (points_ok r ok) refl refl in
     (_, (dry_known _ _ _ refl (λ none. omega arith), dry_least some factor pressure.low temperature.low temperature.high))

@@ -9,28 +9,28 @@ use Rattle.metering.specs.Metering.{time}
 use Rattle.metering.specs.Promise.{PointsOk, SegmentsOk}
 
 module _ (r : Run) (ok : RunOk r) where
-  pub points-ok : PointsOk r.points r.header.counts.points
-  points-ok =
+  pub points_ok : PointsOk r.points r.header.counts.points
+  points_ok =
       record {
         some = within_least _ _ _ ok.header.points;
         few = within_greatest _ _ _ ok.header.points;
         each = ok.points;
       }
 
-  pub segments-ok : SegmentsOk r.segments r.header.counts.segments
-  segments-ok = record { few = within_greatest _ _ _ ok.header.segments; each = ok.segments }
+  pub segments_ok : SegmentsOk r.segments r.header.counts.segments
+  segments_ok = record { few = within_greatest _ _ _ ok.header.segments; each = ok.segments }
 
-  pub time-most : time r.points r.header.counts.points ≤ greatest_total_seconds
+  pub time_most_lem : time r.points r.header.counts.points ≤ greatest_total_seconds
   unfolding time
-  time-most = within_greatest _ _ _ ok.total
+  time_most_lem = within_greatest _ _ _ ok.total
 
-  pub readings-apart : (r.header.first ≤ r.header.last) × (r.header.last ≤ r.header.first + greatest_above_first)
-  readings-apart =
+  pub readings_apart : (r.header.first ≤ r.header.last) × (r.header.last ≤ r.header.first + greatest_above_first)
+  readings_apart =
       let least : r.header.first + 0 ≤ r.header.last = within_least _ _ _ ok.header.last in
       (omega arith, within_greatest _ _ _ ok.header.last)
 
-  pub pb-range : (least_barometer ≤ r.header.pb) × (r.header.pb ≤ greatest_barometer)
-  pb-range = (within_least _ _ _ ok.header.pb, within_greatest _ _ _ ok.header.pb)
+  pub pb_range : (least_barometer ≤ r.header.pb) × (r.header.pb ≤ greatest_barometer)
+  pb_range = (within_least _ _ _ ok.header.pb, within_greatest _ _ _ ok.header.pb)
 
-  pub water-most : r.header.water ≤ greatest_water
-  water-most = within_greatest _ _ _ ok.header.water
+  pub water_most : r.header.water ≤ greatest_water
+  water_most = within_greatest _ _ _ ok.header.water

@@ -56,16 +56,16 @@ above_all most (m ∷ ms) n all above =
 
 module _ {A : Type 0} where
   -- the numbers of a table
-  abbrev pub numbersOf : List (Numbered A) → List ℕ
-  numbersOf rows = map (λ r. r.number) rows
+  abbrev pub numbers_of : List (Numbered A) → List ℕ
+  numbers_of rows = map (λ r. r.number) rows
 
   module _ (none : A) where
-    pub other-number : (rows : List (Numbered A)) (n : ℕ) → one_of (numbersOf rows) n ≡ false → row_of none rows n ≡ none
-    other-number [] n other = refl
-    other-number (r ∷ rs) n other =
+    pub other_number : (rows : List (Numbered A)) (n : ℕ) → one_of (numbers_of rows) n ≡ false → row_of none rows n ≡ none
+    other_number [] n other = refl
+    other_number (r ∷ rs) n other =
         let (not-this, others) = both_false (eqb n r.number) _ other in
-        rw not-this (other-number rs n others)
+        rw not-this (other_number rs n others)
 
     -- and a table with those numbers has no row of it
-    pub no_row : (rows : List (Numbered A)) (n : ℕ) → Besides (numbersOf rows) n Unit → row_of none rows n ≡ none
-    no_row rows n besides = other-number rows n (not_one_of (numbersOf rows) n Unit besides).0
+    pub no_row : (rows : List (Numbered A)) (n : ℕ) → Besides (numbers_of rows) n Unit → row_of none rows n ≡ none
+    no_row rows n besides = other_number rows n (not_one_of (numbers_of rows) n Unit besides).0

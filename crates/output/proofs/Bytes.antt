@@ -8,7 +8,7 @@ use native.Mathlib.Omega.{arith}
 use lib.ListN.{length, length-append}
 use Rattle.output.specs.Bytes.{le}
 use Rattle.output.specs.Splice.{spliced}
-use Rattle.output.proofs.Splice.{spliced_none, spliced-more, length_spliced}
+use Rattle.output.proofs.Splice.{spliced_none, spliced_more, length_spliced}
 
 pub length_le : (width n : ℕ) → length (le width n) ≡ width
 unfolding le
@@ -48,7 +48,7 @@ written_more {old} {at} {width} {value} {out} {next} {rest} {i} w inside e =
           e
           ∙ rw (w.is, w.left, add-one i)
           (ap (λ n. spliced (spliced old at (le i value)) (at + n) (value / 256 ^ i % 256 ∷ [])) (sym size)
-          ∙ spliced-more old at (le i value) (value / 256 ^ i % 256 ∷ []) fits);
+          ∙ spliced_more old at (le i value) (value / 256 ^ i % 256 ∷ []) fits);
     }
 
 pub written_all : {old : List ℕ} {at width value : ℕ} {out : List ℕ} {rest i : ℕ} → Written old at width value out rest i → width ≤ i → out ≡ spliced old at (le width value)

@@ -10,7 +10,7 @@ use lib.ListN.{length, take, drop, length-append}
 use lib.Seq.{take_at, drop_at}
 use Rattle.output.specs.Bytes.{joined}
 use Rattle.output.specs.Splice.{spliced}
-use Rattle.output.proofs.Splice.{length_spliced, spliced_none, spliced-more}
+use Rattle.output.proofs.Splice.{length_spliced, spliced_none, spliced_more}
 
 -- records of one size have that size each
 pub joined_length : (bytes : ℕ → List ℕ) (size : ℕ) → ((i : ℕ) → length (bytes i) ≡ size) → (n : ℕ) → length (joined bytes n) ≡ size * n
@@ -29,17 +29,17 @@ put_none old equal = record { equal = equal; is = spliced_none old 0 }
 
 module _ {bytes : ℕ → List ℕ} {size : ℕ} {old out : List ℕ} {i : ℕ} (p : Put bytes size old out i) where
   -- the buffer keeps its length
-  pub put-length : size * i ≤ length old → length out ≡ length old
-  put-length room =
+  pub put_length : size * i ≤ length old → length out ≡ length old
+  put_length room =
       ap length p.is ∙ length_spliced old 0 (joined bytes i) (omega (arith, joined_length bytes size p.equal i))
 
   -- one record more, just behind the others
-  pub put-more : {next : List ℕ} → size * i + size ≤ length old → next ≡ spliced out (size * i) (bytes i) → Put bytes size old next (i + 1)
+  pub put_more : {next : List ℕ} → size * i + size ≤ length old → next ≡ spliced out (size * i) (bytes i) → Put bytes size old next (i + 1)
   unfolding joined
-  put-more room e =
+  put_more room e =
       let place : size * i ≡ 0 + length (joined bytes i) = sym (joined_length bytes size p.equal i) ∙ sym (zero-add (length (joined bytes i))) in
       let fits : 0 + length (joined bytes i) + length (bytes i) ≤ length old = rw (← place, p.equal i) room in
-      record { equal = p.equal; is = e ∙ rw (p.is, place, add-one i) (spliced-more old 0 (joined bytes i) (bytes i) fits) }
+      record { equal = p.equal; is = e ∙ rw (p.is, place, add-one i) (spliced_more old 0 (joined bytes i) (bytes i) fits) }
 
   -- all of them
   pub put_all : {n : ℕ} → i ≤ n → n ≤ i → out ≡ spliced old 0 (joined bytes n)

@@ -40,8 +40,8 @@ module _ (old : List ℕ) (at : ℕ) (a b : List ℕ) (fits : at + length a + le
       ∙ drop-drop (length b) (at + length a) old
       ∙ ap (λ n. drop n old) regrouped
 
-  pub spliced-more : spliced (spliced old at a) (at + length a) b ≡ spliced old at (a ++ b)
+  pub spliced_more : spliced (spliced old at a) (at + length a) b ≡ spliced old at (a ++ b)
   unfolding spliced
-  spliced-more =
+  spliced_more =
       rw (← append_assoc (take at old) a (drop (at + length a) old))
       (rw (take_at (take at old ++ a) (drop (at + length a) old) (at + length a) front_length, rest) (simp append_assoc))

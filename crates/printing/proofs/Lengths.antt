@@ -40,8 +40,8 @@ refusal_short number place =
 -- A length that suffices for the text of any file
 pub text_most : (fig : Figure) (s : List ℕ) → length (job_text fig s) ≤ 27088
 unfolding job_text
-text_most fig s = most-of (job_trouble s) refl
+text_most fig s = most_of (job_trouble s) refl
   where
-    most-of : (t : Trouble) → job_trouble s ≡ t → length (text_of t fig s) ≤ 27088
-    most-of Clear e = runs_short fig s e
-    most-of (At number place) e = omega (arith, refusal_short number place)
+    most_of : (t : Trouble) → job_trouble s ≡ t → length (text_of t fig s) ≤ 27088
+    most_of Clear e = runs_short fig s e
+    most_of (At number place) e = omega (arith, refusal_short number place)

@@ -12,7 +12,7 @@ use Rattle.job.specs.Places.{run_of}
 use Rattle.job.specs.Troubles.{job_trouble}
 use Rattle.job.specs.Reading.{ClearJob}
 use Rattle.job.proofs.ClearJobs.{clear_run, clear_certificate, certificates_within}
-use Rattle.job.proofs.ReadJobs.{count-of-certificates, start_of}
+use Rattle.job.proofs.ReadJobs.{count_of_certificates, start_of}
 use Rattle.steps.specs.declared.Figure.{Figure}
 use Rattle.findings.specs.Listing.{most_findings, listed}
 use Rattle.findings.proofs.Most.{at_most_for}
@@ -20,7 +20,7 @@ use Rattle.reduction.specs.Reducing.{ReducibleFrom, ClearRun, worked, reduction,
 
 pub workable : (s : List ℕ) (j : Job) → ClearJob s j → (k : ℕ) → k < run_count_of s → ReducibleFrom s j.certificates (run_of s k)
 workable s j ok k inside =
-    subst⁻¹ (λ n. ReducibleFrom s n (run_of s k)) (count-of-certificates s j ok)
+    subst⁻¹ (λ n. ReducibleFrom s n (run_of s k)) (count_of_certificates s j ok)
     (record {
       within = certificates_within s ok.clear;
       reducible = record { run = clear_run s ok.clear k inside; certificates = record { each = clear_certificate s ok.clear } };

@@ -20,14 +20,14 @@ use Rattle.reduction.specs.Reducing.{run_named}
 
 module _ (f : ℕ → Run) (number : ℕ) where
   -- it is one of the runs looked at
-  inside-step : (test : Bool) (rest : Which) (n : ℕ) {k : ℕ} → cond test (Index n) rest ≡ Index k → (rest ≡ Index k → k < n) → k < suc n
-  inside-step true rest n {k} e before = let same : n ≡ k = cc in omega arith
-  inside-step false rest n e before = let less = before e in omega arith
+  inside_step : (test : Bool) (rest : Which) (n : ℕ) {k : ℕ} → cond test (Index n) rest ≡ Index k → (rest ≡ Index k → k < n) → k < suc n
+  inside_step true rest n {k} e before = let same : n ≡ k = cc in omega arith
+  inside_step false rest n e before = let less = before e in omega arith
 
   pub found_inside : (n : ℕ) {k : ℕ} → run_named f number n ≡ Index k → k < n
   unfolding run_named
   found_inside zero e = let never : ◌≡◌ {A = ℕ} 0 1 = cc in absurd (omega arith)
-  found_inside (suc n) e = inside-step (eqb (f n).header.number number) (run_named f number n) n e (found_inside n)
+  found_inside (suc n) e = inside_step (eqb (f n).header.number number) (run_named f number n) n e (found_inside n)
 
   named_step : (n : ℕ) (test : Bool) → eqb (f n).header.number number ≡ test → {k : ℕ} → cond test (Index n) (run_named f number n) ≡ Index k → (run_named f number n ≡ Index k → (f k).header.number ≡ number) → (f k).header.number ≡ number
   named_step n true e {k} found before = let same : n ≡ k = cc in ap (λ i. (f i).header.number) (sym same) ∙ eqb-true _ _ e
@@ -38,9 +38,9 @@ module _ (f : ℕ → Run) (number : ℕ) where
   named zero e = let never : ◌≡◌ {A = ℕ} 0 1 = cc in absurd (omega arith)
   named (suc n) e = named_step n (eqb (f n).header.number number) refl e (named n)
 
-  none-step : (n : ℕ) (test : Bool) → eqb (f n).header.number number ≡ test → cond test (Index n) (run_named f number n) ≡ NoRun → (run_named f number n ≡ NoRun → (k : ℕ) → k < n → (f k).header.number ≡ number → ⊥) → (k : ℕ) → k < suc n → (f k).header.number ≡ number → ⊥
-  none-step n true e found before k inside same = let never : ◌≡◌ {A = ℕ} 0 1 = cc in absurd (omega arith)
-  none-step n false e found before k inside same = last (ℕ_discrete k n)
+  none_step : (n : ℕ) (test : Bool) → eqb (f n).header.number number ≡ test → cond test (Index n) (run_named f number n) ≡ NoRun → (run_named f number n ≡ NoRun → (k : ℕ) → k < n → (f k).header.number ≡ number → ⊥) → (k : ℕ) → k < suc n → (f k).header.number ≡ number → ⊥
+  none_step n true e found before k inside same = let never : ◌≡◌ {A = ℕ} 0 1 = cc in absurd (omega arith)
+  none_step n false e found before k inside same = last (ℕ_discrete k n)
     where
       last : Dec (k ≡ n) → ⊥
       last (yes q) = eqb-false _ _ e (ap (λ i. (f i).header.number) (sym q) ∙ same)
@@ -49,7 +49,7 @@ module _ (f : ℕ → Run) (number : ℕ) where
   pub none_named : (n : ℕ) → run_named f number n ≡ NoRun → (k : ℕ) → k < n → (f k).header.number ≡ number → ⊥
   unfolding run_named
   none_named zero e k inside same = absurd (omega (arith, inside))
-  none_named (suc n) e k inside same = none-step n (eqb (f n).header.number number) refl e (none_named n) k inside same
+  none_named (suc n) e k inside same = none_step n (eqb (f n).header.number number) refl e (none_named n) k inside same
 
 -- the search for a run of a file by its number has passed k runs
 pub record Sought (s : List ℕ) (number : ℕ) (found : Which) (k : ℕ) : Type 0 where

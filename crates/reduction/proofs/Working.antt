@@ -31,8 +31,8 @@ use Rattle.reduction.specs.Reducing.{Reducible, found_for, judged, worked, reduc
 
 module _ (v : Version) (f : ℕ → Certificate) (n : ℕ) (r : Run) (ok : Reducible f n r) where
   -- what is chosen for a run is in range, and so are the values that it gives
-  pub lines-workable : {ch : Chosen} {y cp : Value} {nozzle : Diameters} → ch ≡ chosen_for f n r.header → y ≡ factor_of v ch → cp ≡ coefficient_of ch → nozzle ≡ diameters_of ch → RunWithValues r y cp nozzle
-  lines-workable {ch} ec ey ecp en =
+  pub lines_workable : {ch : Chosen} {y cp : Value} {nozzle : Diameters} → ch ≡ chosen_for f n r.header → y ≡ factor_of v ch → cp ≡ coefficient_of ch → nozzle ≡ diameters_of ch → RunWithValues r y cp nozzle
+  lines_workable {ch} ec ey ecp en =
       let chosen : ChosenOk ch = subst⁻¹ ChosenOk ec (chosen_in_range f n r.header ok.certificates) in
       record {
         run = ok.run;

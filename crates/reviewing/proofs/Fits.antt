@@ -37,8 +37,8 @@ use Rattle.demands.proofs.GoodParts.{good_job}
 use Rattle.reviewing.specs.Numbers.{NumbersFit}
 use Rattle.reviewing.proofs.Rows.{EachRow, end, ◌then◌, any_rule}
 use Rattle.reviewing.proofs.FitsShown.{ShownFits, silent_fits}
-use Rattle.reviewing.proofs.FitsGrounds.{PartOk, RatioFits, missing_fits, moved_fits, uneven_fits, narrow-fits, disturbed-fits, wrong_points_fits, short_fits, leaking_fits, line_fits, ratio_fits, unsteady_fits, lacking_fits, negative_fits}
-use Rattle.reviewing.proofs.FitsLines.{time-few, percent-fits, catch-in-range}
+use Rattle.reviewing.proofs.FitsGrounds.{PartOk, RatioFits, missing_fits, moved_fits, uneven_fits, narrow_fits, disturbed_fits, wrong_points_fits, short_fits, leaking_fits, line_fits, ratio_fits, unsteady_fits, lacking_fits, negative_fits}
+use Rattle.reviewing.proofs.FitsLines.{time_few, percent_fits, catch_in_range}
 use Rattle.reviewing.proofs.FitsPoints.{most_points, least_few}
 
 -- The table, of a part in range and beside what is in range
@@ -61,8 +61,8 @@ table_fits part b n own ok =
     then (λ e. missing_fits _)
     then (λ e. moved_fits _ _ ok.chosen.before ok.chosen.after)
     then (λ e. uneven_fits _ ok.chosen.nozzle)
-    then (λ e. narrow-fits _ ok.site)
-    then (λ e. disturbed-fits _ ok.site)
+    then (λ e. narrow_fits _ ok.site)
+    then (λ e. disturbed_fits _ ok.site)
     then (λ e. wrong_points_fits _ _ _ ok.least ok.points)
     then (λ e. short_fits part)
     then (λ e. leaking_fits _ _ part ok.time own)
@@ -80,9 +80,9 @@ table_fits part b n own ok =
 
 module _ (r : Run) (run : RunOk r) where
   -- what a rule looks at, at any of its places
-  part-ok : (rule i : ℕ) → i < places_of r.header.counts rule → PartOk (part_of r rule i)
+  part_ok : (rule i : ℕ) → i < places_of r.header.counts rule → PartOk (part_of r rule i)
   unfolding places_of part_of
-  part-ok rule i = go (eqb rule 10) (eqb rule 11) (eqb rule 17)
+  part_ok rule i = go (eqb rule 10) (eqb rule 11) (eqb rule 17)
     where
       go : (ten eleven seventeen : Bool) → i < cond ten r.header.counts.points (cond eleven r.header.counts.segments (cond seventeen r.header.counts.weighings 1)) → PartOk (cond ten (OnePoint (point_of r i)) (cond eleven (OneSegment (segment_of r i)) (cond seventeen (OneWeighing (weighing_of r i)) Whole)))
       go true eleven seventeen inside = tt
@@ -92,9 +92,9 @@ module _ (r : Run) (run : RunOk r) where
 
   module _ (v : Version) (fig : Figure) (ch : Chosen) (chosen : ChosenOk ch) (few : minimum_points fig r.header.site ≤ most_points) where
     -- what the rules may see beside it
-    beside-ok : BesideOk (beside_of fig r ch (lines_for v r ch))
+    beside_ok : BesideOk (beside_of fig r ch (lines_for v r ch))
     unfolding beside_of lines_for
-    beside-ok =
+    beside_ok =
         let ok : RunWithValues r (factor_of v ch) (coefficient_of ch) (diameters_of ch) =
         record { run = run; factor = factor_range v ch chosen; coefficient = coefficient_range ch chosen; diameters = diameters_range ch chosen } in
         record {
@@ -102,20 +102,20 @@ module _ (r : Run) (run : RunOk r) where
           site = run.header.site;
           points = within_greatest _ _ _ run.header.points;
           least = few;
-          time = time-few r _ _ _ ok;
-          percent = percent-fits r _ _ _ ok;
-          catch = catch-in-range r _ _ _ ok;
+          time = time_few r _ _ _ ok;
+          percent = percent_fits r _ _ _ ok;
+          catch = catch_in_range r _ _ _ ok;
         }
 
     -- what any rule shows at any place
-    ground-fits : (rule place : ℕ) → ShownFits (ground_for v fig r ch rule place)
+    ground_fits : (rule place : ℕ) → ShownFits (ground_for v fig r ch rule place)
     unfolding ground_for ground_at ground_of
-    ground-fits rule place = go (speaks_of r.header.counts rule place) refl
+    ground_fits rule place = go (speaks_of r.header.counts rule place) refl
       where
         go : (b : Bool) → speaks_of r.header.counts rule place ≡ b → ShownFits (cond b (ground_of (part_of r rule (index_of place)) (beside_of fig r ch (lines_for v r ch)) rule) Silent)
         go true e =
             let inside = ltb-true _ _ (both_left (ltb (index_of place) (places_of r.header.counts rule)) _ e) in
-            any_rule ShownFits silent_fits rule (table_fits _ _ rule (part-ok rule (index_of place) inside) beside-ok)
+            any_rule ShownFits silent_fits rule (table_fits _ _ rule (part_ok rule (index_of place) inside) beside_ok)
         go false e = silent_fits
 
 -- Of every good job, by a good figure or none. The two distances of rule 8 have no range of their own: one is shown only where it makes the
@@ -124,7 +124,7 @@ pub numbers_fit : NumbersFit
 unfolding chosen_in
 numbers_fit l s k rule place lent good inside =
     let clear = good_job s good in
-    ground-fits (run_of s k) (clear_run s clear k inside) (version_of s) (figure_in l) (chosen_in s k)
+    ground_fits (run_of s k) (clear_run s clear k inside) (version_of s) (figure_in l) (chosen_in s k)
     (chosen_in_range _ _ _ (record { each = clear_certificate s clear }))
     (least_few l lent (run_of s k).header.site)
     rule place

@@ -60,40 +60,40 @@ uneven_fits (Found n) ok =
 
 -- 7 and 8: sides in range; the smaller number of each comparison fits with the larger, whatever the distances are
 module _ (s : Site) (ok : SiteOk s) where
-  first-most : s.first ≤ greatest_side
-  first-most = within_greatest _ _ _ ok.first
+  first_most_lem : s.first ≤ greatest_side
+  first_most_lem = within_greatest _ _ _ ok.first
 
-  second-most : s.second ≤ greatest_side
-  second-most = go (is_round s) ok.second
+  second_most_lem : s.second ≤ greatest_side
+  second_most_lem = go (is_round s) ok.second
     where
       go : (round : Bool) → cond round (eqb s.second 0) (side s.second) ≡ true → s.second ≤ greatest_side
       go true e = omega (arith, eqb-true s.second 0 e)
       go false e = within_greatest _ _ _ e
 
-  product-most : s.first * s.second ≤ greatest_side * greatest_side
-  product-most = mul-le-mul first-most second-most
+  product_most : s.first * s.second ≤ greatest_side * greatest_side
+  product_most = mul-le-mul first_most_lem second_most_lem
 
-  diameter-most : ((diameter s).over ≤ 2 * (greatest_side * greatest_side)) × ((diameter s).under ≤ 2 * greatest_side)
+  diameter_most_lem : ((diameter s).over ≤ 2 * (greatest_side * greatest_side)) × ((diameter s).under ≤ 2 * greatest_side)
   unfolding diameter
-  diameter-most = go (is_round s)
+  diameter_most_lem = go (is_round s)
     where
       go : (round : Bool) → ((cond round (fraction s.first 1) (fraction (2 * (s.first * s.second)) (s.first + s.second))).over ≤ 2 * (greatest_side * greatest_side)) × ((cond round (fraction s.first 1) (fraction (2 * (s.first * s.second)) (s.first + s.second))).under ≤ 2 * greatest_side)
-      go true = (omega (arith, first-most), omega arith)
-      go false = (omega (arith, product-most), omega (arith, first-most, second-most))
+      go true = (omega (arith, first_most_lem), omega arith)
+      go false = (omega (arith, product_most), omega (arith, first_most_lem, second_most_lem))
 
-  half-most : (half_diameter s).over ≤ greatest_side * greatest_side
+  half_most : (half_diameter s).over ≤ greatest_side * greatest_side
   unfolding half_diameter
-  half-most = go (is_round s)
+  half_most = go (is_round s)
     where
       go : (round : Bool) → (cond round (fraction s.first 2) (fraction (s.first * s.second) (s.first + s.second))).over ≤ greatest_side * greatest_side
-      go true = omega (arith, first-most)
-      go false = product-most
+      go true = omega (arith, first_most_lem)
+      go false = product_most
 
-  pub narrow-fits : ShownFits (narrow s)
-  narrow-fits = compared_fits _ (below_fits _ _ (omega (arith, diameter-most)))
+  pub narrow_fits : ShownFits (narrow s)
+  narrow_fits = compared_fits _ (below_fits _ _ (omega (arith, diameter_most_lem)))
 
-  pub disturbed-fits : ShownFits (disturbed s)
-  disturbed-fits = either_fits _ _ (below_fits _ _ (omega (arith, half-most))) (below_fits _ _ (omega (arith, diameter-most)))
+  pub disturbed_fits : ShownFits (disturbed s)
+  disturbed_fits = either_fits _ _ (below_fits _ _ (omega (arith, half_most))) (below_fits _ _ (omega (arith, diameter_most_lem)))
 
 -- 9: a number of points in range, and a least number that is small
 pub wrong_points_fits : (shape least n : ℕ) → least ≤ most_points → n ≤ greatest_point_count → ShownFits (wrong_points shape least n)

@@ -33,12 +33,12 @@ use Rattle.metering.specs.Promise.{least_meter_pressure, least_meter_rankine, gr
 use Rattle.metering.proofs.Cases.{dry_known}
 use Rattle.metering.proofs.Products.{dry_numerator}
 use Rattle.metering.proofs.DryVolume.{dry_least}
-use Rattle.metering.proofs.Passes.{is-time, is-orifice, is_meter_pressure, is-meter-temperature}
-use Rattle.metering.proofs.RunInRange.{points-ok, time-most, readings-apart, pb-range, water-most}
+use Rattle.metering.proofs.Passes.{is_time, is_orifice, is_meter_pressure, is_meter_temperature}
+use Rattle.metering.proofs.RunInRange.{points_ok, time_most_lem, readings_apart, pb_range, water_most}
 use Rattle.stack.specs.Stack.{dry_weight, wet_weight, stack_pressure, stack_temperature, mean_root, density_root, velocity, stack}
 use Rattle.stack.specs.Promise.{greatest_root, greatest_density_root, greatest_velocity}
-use Rattle.stack.proofs.Passes.{is-stack-temperature, is-mean-root}
-use Rattle.stack.proofs.Pressure.{pressure-least}
+use Rattle.stack.proofs.Passes.{is_stack_temperature, is_mean_root}
+use Rattle.stack.proofs.Pressure.{pressure_least_lem}
 use Rattle.stack.proofs.Products.{wet_most, wet_least, velocity_numerator}
 use Rattle.stack.proofs.Roots.{density_most}
 use Rattle.sampling.specs.Sampling.{nozzle_area, drawn_gas, isokinetic, final_weights, tares, catch, sampling}
@@ -49,7 +49,7 @@ use Rattle.sampling.proofs.Products.{sum_range, is_area, drawn_numerator, diviso
 use Rattle.sampling.proofs.RunInRange.{weighings_ok}
 use Rattle.lines.specs.Promise.{RunWithValues}
 use Rattle.lines.specs.Sheet.{lines}
-use Rattle.lines.proofs.RunInRange.{traverse-ok, gas-range}
+use Rattle.lines.proofs.RunInRange.{traverse_ok, gas_range}
 use Rattle.reviewing.proofs.FitsGrounds.{RatioFits}
 
 -- Lines 3, 6, 7 and 8
@@ -108,7 +108,7 @@ wet_weight_range dry (Known w) least most range =
 stack_pressure_least : (pb : ℕ) (pg : ℤ) → least_barometer ≤ pb → pb ≤ greatest_barometer → static_pressure pg ≡ true → 177941 ≤ stack_pressure pb pg
 unfolding stack_pressure
 stack_pressure_least pb pg low high ok =
-    le_round _ 136 177941 (lit< tt) (omega (arith, pressure-least pb low high pg ok))
+    le_round _ 136 177941 (lit< tt) (omega (arith, pressure_least_lem pb low high pg ok))
 
 -- the hottest, lightest gas at the least pressure
 density_range : (wet : Value) (p t : ℕ) → Between 18000 44000 wet → 177941 ≤ p → t ≤ 24600 → Between 0 greatest_density_root (density_root wet p t)
@@ -185,55 +185,55 @@ module _ (r : Run) (y cp : Value) (nozzle : Diameters) (ok : RunWithValues r y c
   run : RunOk r
   run = ok.run
 
-  line-1 : (least_seconds ≤ time r.points r.header.counts.points) × (time r.points r.header.counts.points ≤ greatest_total_seconds)
+  line_1 : (least_seconds ≤ time r.points r.header.counts.points) × (time r.points r.header.counts.points ≤ greatest_total_seconds)
   unfolding time
-  line-1 = let is = is-time r.points _ _ (points-ok r run) (time-most r run) refl in (is.low, is.high)
+  line_1 = let is = is_time r.points _ _ (points_ok r run) (time_most_lem r run) refl in (is.low, is.high)
 
-  line-2 : metered_volume r.header.first r.header.last ≤ greatest_above_first
+  line_2 : metered_volume r.header.first r.header.last ≤ greatest_above_first
   unfolding metered_volume
-  line-2 = omega (arith, readings-apart r run)
+  line_2 = omega (arith, readings_apart r run)
 
-  line-6 : Between least_dry_volume greatest_dry_volume (metering r y).dry
+  line_6 : Between least_dry_volume greatest_dry_volume (metering r y).dry
   unfolding metering mean_orifice meter_temperature
-  line-6 =
-      let pb = pb-range r run in
-      let orifice = is-orifice r.points _ _ (points-ok r run) refl refl in
+  line_6 =
+      let pb = pb_range r run in
+      let orifice = is_orifice r.points _ _ (points_ok r run) refl refl in
       let pressure = is_meter_pressure r.header.pb _ pb.0 pb.1 orifice.high refl in
-      let temperature = is-meter-temperature r.points _ _ (points-ok r run) refl refl in
-      let corrected = corrected_most _ _ r.segments r.header.counts.segments line-1.0 line-2 in
+      let temperature = is_meter_temperature r.points _ _ (points_ok r run) refl refl in
+      let corrected = corrected_most _ _ r.segments r.header.counts.segments line_1.0 line_2 in
       dry_range _ y _ _ corrected ok.factor pressure.low pressure.high temperature.low temperature.high
 
-  line-11 : 177941 ≤ stack_pressure r.header.pb r.header.pg
-  line-11 = stack_pressure_least _ _ (pb-range r run).0 (pb-range r run).1 run.header.pg
+  line_11 : 177941 ≤ stack_pressure r.header.pb r.header.pg
+  line_11 = stack_pressure_least _ _ (pb_range r run).0 (pb_range r run).1 run.header.pg
 
-  line-12 : stack_temperature r.points r.header.counts.points ≤ 24600
+  line_12 : stack_temperature r.points r.header.counts.points ≤ 24600
   unfolding stack_temperature
-  line-12 = (is-stack-temperature r.points _ _ (traverse-ok r run) refl refl).high
+  line_12 = (is_stack_temperature r.points _ _ (traverse_ok r run) refl refl).high
 
-  line-13 : mean_root r.points r.header.counts.points ≤ greatest_root
+  line_13 : mean_root r.points r.header.counts.points ≤ greatest_root
   unfolding mean_root
-  line-13 = (is-mean-root r.points _ _ (traverse-ok r run) refl refl).high
+  line_13 = (is_mean_root r.points _ _ (traverse_ok r run) refl refl).high
 
-  line-15 : Between 0 greatest_velocity (lines r y cp nozzle).stack.velocity
+  line_15 : Between 0 greatest_velocity (lines r y cp nozzle).stack.velocity
   unfolding lines stack metering
-  line-15 =
-      let weight = dry_weight_range r.header.co2 r.header.o2 (gas-range r run) in
-      let wet = wet_weight_range _ _ weight.0 weight.1 (moisture_range _ _ line-6) in
-      velocity_range cp _ _ ok.coefficient line-13 (density_range _ _ _ wet line-11 line-12)
+  line_15 =
+      let weight = dry_weight_range r.header.co2 r.header.o2 (gas_range r run) in
+      let wet = wet_weight_range _ _ weight.0 weight.1 (moisture_range _ _ line_6) in
+      velocity_range cp _ _ ok.coefficient line_13 (density_range _ _ _ wet line_11 line_12)
 
   -- line 1
-  pub time-few : (lines r y cp nozzle).metering.time ≤ greatest_total_seconds
+  pub time_few : (lines r y cp nozzle).metering.time ≤ greatest_total_seconds
   unfolding lines metering
-  time-few = line-1.1
+  time_few = line_1.1
 
   -- line 18, before it is rounded
-  pub percent-fits : RatioFits (lines r y cp nozzle).sampling.isokinetic
+  pub percent_fits : RatioFits (lines r y cp nozzle).sampling.isokinetic
   unfolding lines sampling stack metering
-  percent-fits =
-      let drawn = drawn_range _ _ _ _ line-6 (vapor_most _ (water-most r run)) line-11 line-12 in
-      isokinetic_fits _ _ _ _ drawn line-15 (area_range nozzle ok.diameters) line-1.0 line-1.1
+  percent_fits =
+      let drawn = drawn_range _ _ _ _ line_6 (vapor_most _ (water_most r run)) line_11 line_12 in
+      isokinetic_fits _ _ _ _ drawn line_15 (area_range nozzle ok.diameters) line_1.0 line_1.1
 
   -- line 19
-  pub catch-in-range : CatchOk (lines r y cp nozzle).sampling.catch
+  pub catch_in_range : CatchOk (lines r y cp nozzle).sampling.catch
   unfolding lines sampling
-  catch-in-range = catch_range _ _ _ (weighings_ok r run) run.header.acetone
+  catch_in_range = catch_range _ _ _ (weighings_ok r run) run.header.acetone

@@ -233,9 +233,9 @@ rows_one part b n not_eight not-nine =
 
 module _ (v : Version) (fig : Figure) (f : ℕ → Certificate) (n : ℕ) (r : Run) (place : ℕ) where
   -- what is shown of any rule but 8 and 9
-  one-shown : (rule : ℕ) → eqb rule 8 ≡ false → eqb rule 9 ≡ false → length (shown (ground_for v fig r (chosen_for f n r.header) rule place)) ≤ 1
+  one_shown : (rule : ℕ) → eqb rule 8 ≡ false → eqb rule 9 ≡ false → length (shown (ground_for v fig r (chosen_for f n r.header) rule place)) ≤ 1
   unfolding shown ground_for ground_at ground_of conditions
-  one-shown rule not_eight not-nine = go (speaks_of r.header.counts rule place)
+  one_shown rule not_eight not-nine = go (speaks_of r.header.counts rule place)
     where
       rows : List (Numbered Ground)
       rows = table (part_of r rule (index_of place)) (beside_of fig r (chosen_for f n r.header) (lines_for v r (chosen_for f n r.header)))
@@ -250,9 +250,9 @@ module _ (v : Version) (fig : Figure) (f : ℕ → Certificate) (n : ℕ) (r : R
       go true = omega (arith, shown_few (conditions (row_of Silent rows rule)), few)
       go false = omega (arith, shown_few (conditions Silent))
 
-  two-shown : (rule : ℕ) → length (shown (ground_for v fig r (chosen_for f n r.header) rule place)) ≤ 2
+  two_shown : (rule : ℕ) → length (shown (ground_for v fig r (chosen_for f n r.header) rule place)) ≤ 2
   unfolding shown
-  two-shown rule = let g = ground_for v fig r (chosen_for f n r.header) rule place in omega (arith, shown_few (conditions g), at_most_two g)
+  two_shown rule = let g = ground_for v fig r (chosen_for f n r.header) rule place in omega (arith, shown_few (conditions g), at_most_two g)
 
   abbrev bytes : ℕ → ℕ
   bytes rule = length (written Bytes (explanation v fig f n r rule place))
@@ -261,13 +261,13 @@ module _ (v : Version) (fig : Figure) (f : ℕ → Certificate) (n : ℕ) (r : R
   unfolding explanation
   at_most rule shows dates few used fits = omega (arith, written_bytes (explanation v fig f n r rule place), few, used, fits)
 
-  seventy-at-most : (rule : ℕ) → bytes rule ≤ 70
-  seventy-at-most rule =
+  seventy_at_most : (rule : ℕ) → bytes rule ≤ 70
+  seventy_at_most rule =
       let none = no_uses v in
-      settle (λ r. bytes r ≤ 70) 8 rule (at_most 8 2 0 (two-shown 8) (omega (arith, days_counted v f n r.header 8, none.0)) (omega arith)) (λ not_eight.
-      settle (λ r. bytes r ≤ 70) 9 rule (at_most 9 2 0 (two-shown 9) (omega (arith, days_counted v f n r.header 9, none.1)) (omega arith)) (λ not-nine.
-      at_most rule 1 4 (one-shown rule not_eight not-nine) (omega (arith, days_counted v f n r.header rule, four_uses v rule)) (omega arith)))
+      settle (λ r. bytes r ≤ 70) 8 rule (at_most 8 2 0 (two_shown 8) (omega (arith, days_counted v f n r.header 8, none.0)) (omega arith)) (λ not_eight.
+      settle (λ r. bytes r ≤ 70) 9 rule (at_most 9 2 0 (two_shown 9) (omega (arith, days_counted v f n r.header 9, none.1)) (omega arith)) (λ not-nine.
+      at_most rule 1 4 (one_shown rule not_eight not-nine) (omega (arith, days_counted v f n r.header rule, four_uses v rule)) (omega arith)))
 
 -- Of every explanation
 pub seventy_bytes : SeventyBytes
-seventy_bytes v fig f n r rule place = seventy-at-most v fig f n r place rule
+seventy_bytes v fig f n r rule place = seventy_at_most v fig f n r place rule

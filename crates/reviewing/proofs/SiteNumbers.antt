@@ -21,9 +21,9 @@ module _ (s : Site) where
   unfolding diameter half_diameter
   rectangular e = (rw (ne_eqb _ _ e), rw (ne_eqb _ _ e))
 
-  pub site-numbers : SiteNumbers s
+  pub site_numbers : SiteNumbers s
   unfolding conditions
-  site-numbers =
+  site_numbers =
       record {
         narrow_round = λ e. rw (round e).0 (once _ refl (refl, (refl, (refl, refl))));
         disturbed_round = λ e. rw ((round e).0, (round e).1) (twice _ _ refl (refl, (refl, (ap pos (mul_comm _ 2), refl))) (refl, (refl, (ap pos (mul-one _), refl))));

@@ -15,7 +15,7 @@ use Rattle.reduction.specs.declared.Reduced.{Reduced}
 use Rattle.reduction.specs.declared.Which.{Which}
 use Rattle.reduction.specs.declared.Which.TheVariants.{Index, NoRun}
 use Rattle.job.proofs.WholeFile.{header_refuses}
-use Rattle.job.proofs.ReadJobs.{count-of-runs, place_fits, read_refused}
+use Rattle.job.proofs.ReadJobs.{count_of_runs, place_fits, read_refused}
 use Rattle.reduction.specs.Reducing.{reduced_run, run_named}
 use Rattle.handing.specs.Handing.{refused, handed}
 use Rattle.runs.specs.Outcomes.{outcome, outcome_by}
@@ -34,13 +34,13 @@ header_fits s {t} e told = omega (arith, place_fits s (header_refuses s {t = t} 
 pub no_run : (fig : Figure) (s : List ℕ) (j : Job) {which : Which} (run lines findings : ℕ) → ClearJob s j → which ≡ run_named (run_of s) run j.runs → which ≡ NoRun → outcome fig s run lines findings ≡ refused 10 0
 unfolding outcome
 no_run fig s j run lines findings ok ew en =
-    let none : run_named (run_of s) run (run_count_of s) ≡ NoRun = ap (run_named (run_of s) run) (sym (count-of-runs s j ok)) ∙ sym ew ∙ en in
+    let none : run_named (run_of s) run (run_count_of s) ≡ NoRun = ap (run_named (run_of s) run) (sym (count_of_runs s j ok)) ∙ sym ew ∙ en in
     rw (ok.clear, none)
 
 pub one_run : (fig : Figure) (s : List ℕ) (j : Job) {which : Which} {k : ℕ} {r : Reduced} (run lines findings : ℕ) → ClearJob s j → which ≡ run_named (run_of s) run j.runs → which ≡ Index k → r ≡ reduced_run fig s k → handed r lines findings ≡ outcome fig s run lines findings
 unfolding outcome
 one_run fig s j run lines findings ok ew ek er =
-    let one = ap (run_named (run_of s) run) (sym (count-of-runs s j ok)) ∙ sym ew ∙ ek in
+    let one = ap (run_named (run_of s) run) (sym (count_of_runs s j ok)) ∙ sym ew ∙ ek in
     rw (ok.clear, one, er)
 
 -- By what is supplied for a figure: its trouble comes first, and without one the figure decides

@@ -15,14 +15,14 @@ module _ (is_reached : Step → Bool) (l : List Step) where
   taken_none = refl
 
   -- one that is reached is taken in place of those before it ..
-  pub taken-reached : (i : ℕ) → is_reached (step_of l i) ≡ true → step_of l i ≡ last_reached is_reached l (i + 1)
+  pub taken_reached : (i : ℕ) → is_reached (step_of l i) ≡ true → step_of l i ≡ last_reached is_reached l (i + 1)
   unfolding last_reached
-  taken-reached i e = rw (add-one, e)
+  taken_reached i e = rw (add-one, e)
 
   -- .. and one that is not changes nothing
-  pub taken-passed : (i : ℕ) {step : Step} → step ≡ last_reached is_reached l i → is_reached (step_of l i) ≡ false → step ≡ last_reached is_reached l (i + 1)
+  pub taken_passed : (i : ℕ) {step : Step} → step ≡ last_reached is_reached l i → is_reached (step_of l i) ≡ false → step ≡ last_reached is_reached l (i + 1)
   unfolding last_reached
-  taken-passed i e f = rw (add-one, f) e
+  taken_passed i e f = rw (add-one, f) e
 
 -- The higher of two numbers, by how they compare
 

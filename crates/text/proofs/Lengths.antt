@@ -100,23 +100,23 @@ place_few rule i h = either_most (one_of (10 ∷ 11 ∷ 17 ∷ []) rule) _ _ gre
 
 -- what a run breaks, and where, are numbers of two digits
 module _ (v : Version) (fig : Figure) (r : Run) (ch : Chosen) (ok : RunOk r) where
-  breaks-at : (i : ℕ) → i < length (findings_for v fig r ch) → Breaks fig r ch (lines_for v r ch) (get_or (findings_for v fig r ch) i no_finding).rule (get_or (findings_for v fig r ch) i no_finding).place
+  breaks_at : (i : ℕ) → i < length (findings_for v fig r ch) → Breaks fig r ch (lines_for v r ch) (get_or (findings_for v fig r ch) i no_finding).rule (get_or (findings_for v fig r ch) i no_finding).place
   unfolding findings_for
-  breaks-at i inside = (listed_exactly v fig r ch (lines_for v r ch) _ _).0 (record { index = i; inside = inside; same = (refl, refl) })
+  breaks_at i inside = (listed_exactly v fig r ch (lines_for v r ch) _ _).0 (record { index = i; inside = inside; same = (refl, refl) })
 
-  finding-at-short : (i : ℕ) → i < length (findings_for v fig r ch) → length (finding_text (get_or (findings_for v fig r ch) i no_finding)) ≤ 12
-  finding-at-short i inside =
-      let b = breaks-at i inside in
+  finding_at_short : (i : ℕ) → i < length (findings_for v fig r ch) → length (finding_text (get_or (findings_for v fig r ch) i no_finding)) ≤ 12
+  finding_at_short i inside =
+      let b = breaks_at i inside in
       let few = places_few r ok (get_or (findings_for v fig r ch) i no_finding).rule in
       let place = place_few (get_or (findings_for v fig r ch) i no_finding).rule b.index (omega (arith, few, b.inside)) in
       finding_short _ (omega (arith, b.last)) (omega (arith, place, b.there))
 
-  found-short : length (findings_text (listed (findings_for v fig r ch)).list (listed (findings_for v fig r ch)).count) ≤ 1176
+  found_short : length (findings_text (listed (findings_for v fig r ch)).list (listed (findings_for v fig r ch)).count) ≤ 1176
   unfolding findings_text listed filled_to
-  found-short =
+  found_short =
       let fs = findings_for v fig r ch in
       let behind = replicate (most_findings - length fs) no_finding in
-      let all = joined_short (λ i. finding_text (get_or (fs ++ behind) i no_finding)) (length fs) 12 (λ i inside. rw (get_or-append fs behind no_finding i inside) (finding-at-short i inside)) in
+      let all = joined_short (λ i. finding_text (get_or (fs ++ behind) i no_finding)) (length fs) 12 (λ i inside. rw (get_or-append fs behind no_finding i inside) (finding_at_short i inside)) in
       omega (arith, all, at_most_for v fig r ch ok)
 
 -- A run
@@ -137,4 +137,4 @@ run_short v fig r ch ok =
     let three = length-append (run_word ++ number ++ stands) sheet in
     let four = length-append (run_word ++ number ++ stands ++ sheet) found in
     let small = within_greatest least_run_number greatest_run_number _ ok.header.number in
-    omega (arith, one, two, three, four, decimal_digits 2 r.header.number (omega (arith, small)), standing_short (worked v fig r ch).accepted, sheet_short (worked v fig r ch).sheet, found-short v fig r ch ok)
+    omega (arith, one, two, three, four, decimal_digits 2 r.header.number (omega (arith, small)), standing_short (worked v fig r ch).accepted, sheet_short (worked v fig r ch).sheet, found_short v fig r ch ok)

@@ -22,11 +22,11 @@ each_more f n = rw (add-one n)
 
 -- Parts of k elements each
 module _ (f : ℕ → List ℕ) (k : ℕ) (equal : (i : ℕ) → length (f i) ≡ k) where
-  pub each-length : (n : ℕ) → length (each_to f n) ≡ n * k
+  pub each_length : (n : ℕ) → length (each_to f n) ≡ n * k
   unfolding each_to
-  each-length zero = sym (zero-mul k)
-  each-length (suc n) =
-      length-append (each_to f n) (f (suc n)) ∙ rw (each-length n, equal (suc n), suc-mul n k)
+  each_length zero = sym (zero-mul k)
+  each_length (suc n) =
+      length-append (each_to f n) (f (suc n)) ∙ rw (each_length n, equal (suc n), suc-mul n k)
 
   -- Element i of part j, both counted from 0
   pub each_at : (n j i : ℕ) → j < n → i < k → get_or (each_to f n) (j * k + i) 0 ≡ get_or (f (j + 1)) i 0
@@ -35,11 +35,11 @@ module _ (f : ℕ → List ℕ) (k : ℕ) (equal : (i : ℕ) → length (f i) �
   each_at (suc n) j i inside small = ⊎_elim last (λ less. earlier less ∙ each_at n j i less small) (eq-or-lt_of_le (le_of_suc-le-suc inside))
     where
       last : j ≡ n → get_or (each_to f n ++ f (suc n)) (j * k + i) 0 ≡ get_or (f (j + 1)) i 0
-      last same = rw (same, ← each-length n, get_or-append-add (each_to f n) (f (suc n)) i 0, add-one n)
+      last same = rw (same, ← each_length n, get_or-append-add (each_to f n) (f (suc n)) i 0, add-one n)
 
       earlier : j < n → get_or (each_to f n ++ f (suc n)) (j * k + i) 0 ≡ get_or (each_to f n) (j * k + i) 0
       earlier less =
-          let size : length (each_to f n) ≡ n * k = each-length n in
+          let size : length (each_to f n) ≡ n * k = each_length n in
           let more : suc j * k ≡ j * k + k = suc-mul j k in
           let room : suc j * k ≤ n * k = mul-le-mul_right k less in
           get_or-append (each_to f n) (f (suc n)) 0 (j * k + i) (omega arith)

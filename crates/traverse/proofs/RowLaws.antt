@@ -9,7 +9,7 @@ use Rattle.arrays.proofs.Filled.{Filled}
 use Rattle.distances.specs.Rectangle.{first_cells, second_cells, center}
 use Rattle.distances.proofs.RectangleLaws.{CellsOk}
 use Rattle.traverse.specs.Layout.{each_to, rectangle_layout, most_distances, IsLayout}
-use Rattle.traverse.proofs.ListLaws.{filled_two, each_none, each_more, each-length, each_at}
+use Rattle.traverse.proofs.ListLaws.{filled_two, each_none, each_more, each_length, each_at}
 
 -- the two distances of cell i along the first side, j along the second
 abbrev pub pair : ℕ → ℕ → ℕ → ℕ → ℕ → ℕ → List ℕ
@@ -20,8 +20,8 @@ abbrev pub row : ℕ → ℕ → ℕ → ℕ → ℕ → List ℕ
 row first second columns rows j = each_to (pair first second columns rows j) columns
 
 module _ (first second columns rows : ℕ) where
-  pub row-length : (j : ℕ) → length (row first second columns rows j) ≡ columns * 2
-  row-length j = each-length (pair first second columns rows j) 2 (λ i. refl) columns
+  pub row_length : (j : ℕ) → length (row first second columns rows j) ≡ columns * 2
+  row_length j = each_length (pair first second columns rows j) 2 (λ i. refl) columns
 
   -- Number e of the two of cell i in row j, both counted from 0
   pub rows_at : (i j e : ℕ) → i < columns → j < rows → e < 2 → get_or (each_to (row first second columns rows) rows) (2 * (j * columns + i) + e) 0 ≡ get_or (pair first second columns rows (j + 1) (i + 1)) e 0
@@ -29,7 +29,7 @@ module _ (first second columns rows : ℕ) where
       let swap : j * columns * 2 ≡ j * (columns * 2) = mul_assoc j columns 2 in
       let place : 2 * (j * columns + i) + e ≡ j * (columns * 2) + (i * 2 + e) = omega arith in
       rw place
-      (each_at (row first second columns rows) (columns * 2) row-length rows j (i * 2 + e) across (omega arith)
+      (each_at (row first second columns rows) (columns * 2) row_length rows j (i * 2 + e) across (omega arith)
       ∙ each_at (pair first second columns rows (j + 1)) 2 (λ i. refl) columns i e along two)
 
   -- j rows
@@ -46,8 +46,8 @@ module _ {first second columns rows : ℕ} where
   pub rows_none : {array : List ℕ} → Filled most_distances 0 [] 0 array → Rows first second columns rows array 0 0
   rows_none t = record { past = omega arith; filled = rw (each_none (row first second columns rows)) t }
 
-  pub row-none : {array : List ℕ} {at j : ℕ} → Rows first second columns rows array at j → Row first second columns rows j array at 0
-  row-none {j = j} t =
+  pub row_none : {array : List ℕ} {at j : ℕ} → Rows first second columns rows array at j → Row first second columns rows j array at 0
+  row_none {j = j} t =
       record {
         past = omega arith;
         filled = rw (each_none (pair first second columns rows (j + 1)), append-nil) t.filled;
@@ -56,8 +56,8 @@ module _ {first second columns rows : ℕ} where
   -- There is room for one point more
   pub row_room : {n : ℕ} {array : List ℕ} {at j i : ℕ} → CellsOk n columns rows → Row first second columns rows j array at i → j < rows → i < columns → at + 1 < most_distances
   row_room {at = at} {j = j} {i = i} ok t below inside =
-      let whole : length (each_to (row first second columns rows) j) ≡ j * (columns * 2) = each-length (row first second columns rows) (columns * 2) (row-length first second columns rows) j in
-      let part : length (each_to (pair first second columns rows (j + 1)) i) ≡ i * 2 = each-length (pair first second columns rows (j + 1)) 2 (λ i. refl) i in
+      let whole : length (each_to (row first second columns rows) j) ≡ j * (columns * 2) = each_length (row first second columns rows) (columns * 2) (row_length first second columns rows) j in
+      let part : length (each_to (pair first second columns rows (j + 1)) i) ≡ i * 2 = each_length (pair first second columns rows (j + 1)) 2 (λ i. refl) i in
       let both = length-append (each_to (row first second columns rows) j) (each_to (pair first second columns rows (j + 1)) i) in
       let more : suc j * (columns * 2) ≡ j * (columns * 2) + columns * 2 = suc-mul j (columns * 2) in
       let fits : suc j * (columns * 2) ≤ rows * (columns * 2) = mul-le-mul_right (columns * 2) below in
@@ -75,8 +75,8 @@ module _ {first second columns rows : ℕ} where
         filled = rw (each_more (pair first second columns rows (j + 1)) i, ← ea, ← eb) (filled_two whole part a b t.filled (row_room ok t below inside));
       }
 
-  pub row-all : {array : List ℕ} {at j i : ℕ} → Row first second columns rows j array at i → j < rows → columns ≤ i → Rows first second columns rows array at (j + 1)
-  row-all {array = array} {at = at} {j = j} {i = i} t below end =
+  pub row_all : {array : List ℕ} {at j i : ℕ} → Row first second columns rows j array at i → j < rows → columns ≤ i → Rows first second columns rows array at (j + 1)
+  row_all {array = array} {at = at} {j = j} {i = i} t below end =
       let all : i ≡ columns = le_antisymm t.past end in
       record { past = omega arith; filled = rw (each_more (row first second columns rows) j) (rw all at t.filled) }
 

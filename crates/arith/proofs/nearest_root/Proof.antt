@@ -1,14 +1,14 @@
--- `nearest_root` is the root: the odd number in the middle between the whole part of the half and one more decides, by `nearest-up` and `nearest-down`.
+-- `nearest_root` is the root: the odd number in the middle between the whole part of the half and one more decides, by `nearest_up` and `nearest_down`.
 use Prim.Native.Nat.{◌+◌, ◌*◌, ◌≤◌}
 use native.Mathlib.Nat.{mul-le-mul}
 use native.Mathlib.Omega.{arith}
 use borrow.Author.Rules.{rules}
-use Rattle.arith.proofs.Search.{half-most, nearest-up, nearest-down}
+use Rattle.arith.proofs.Search.{half_most, nearest_up, nearest_down}
 use Rattle.arith.proofs.nearest_root.Statement.{statement}
 use Rattle.arith.proofs.nearest_root.Tie as tie
 
 whole_most : (c : tie.After-whole-root) → c.whole-root.result ≤ 2147483647
-whole_most c = half-most _ _ c.before.ranges.y.fits c.whole-root.ensures
+whole_most c = half_most _ _ c.before.ranges.y.fits c.whole-root.ensures
 
 whole-root-requires : tie.Need-whole-root-requires
 whole-root-requires c κs = search rules
@@ -28,10 +28,10 @@ add-result : tie.Need-overflow-add-result
 add-result c = search rules
 
 returns : tie.Need-returns
-returns c = nearest-up _ _ c.before.before.ranges.y.fits c.before.whole-root.ensures c.if1.true
+returns c = nearest_up _ _ c.before.before.ranges.y.fits c.before.whole-root.ensures c.if1.true
 
 returns-2 : tie.Need-returns-2
-returns-2 c = nearest-down _ _ c.before.before.ranges.y.fits c.before.whole-root.ensures c.if1.false
+returns-2 c = nearest_down _ _ c.before.before.ranges.y.fits c.before.whole-root.ensures c.if1.false
 
 pub nearest-root-spec : {M : Type 1} → statement M
 nearest-root-spec =

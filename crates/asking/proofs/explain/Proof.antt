@@ -2,10 +2,10 @@
 use mathlib.Core.Path.{◌∙◌, sym}
 use native.Mathlib.Omega.{arith}
 use Rattle.job.specs.Reading.{ClearJob}
-use Rattle.job.proofs.ReadJobs.{read_clear, count-of-runs, place_fits}
+use Rattle.job.proofs.ReadJobs.{read_clear, count_of_runs, place_fits}
 use Rattle.reduction.specs.Reducing.{ClearRun}
 use Rattle.reduction.proofs.Naming.{found_inside}
-use Rattle.asking.proofs.Outcomes.{refused_by_reader, no_run, no-finding, one-finding}
+use Rattle.asking.proofs.Outcomes.{refused_by_reader, no_run, no_finding_lem, one_finding}
 use borrow.Author.Rules.{rules}
 use Rattle.asking.proofs.explain.Statement.{statement}
 use Rattle.asking.proofs.explain.Tie as tie
@@ -33,7 +33,7 @@ found : (c : tie.After-known-told2) → ClearRun c.before.before.before.before.b
 found c =
     let job = clear c.before.before.before.before in
     let named = sym c.before.before.before.find-run.ensures ∙ c.before.which.given.1 in
-    record { job = job; inside = rw (count-of-runs _ _ job) at (found_inside _ _ _ named) }
+    record { job = job; inside = rw (count_of_runs _ _ job) at (found_inside _ _ _ named) }
 
 find-run-requires : tie.Need-find-run-requires
 find-run-requires c κs = clear c
@@ -59,7 +59,7 @@ enum-told-3 c = search rules
 returns-3 : tie.Need-returns-3
 returns-3 c =
     let at = c.before.before.before in
-    no-finding _ _ _ _ _ _ _ _ (clear at.before.before.before.before) at.before.before.before.find-run.ensures at.before.which.given.1 c.before.before.explain-run.ensures c.enum-told3.given.1
+    no_finding_lem _ _ _ _ _ _ _ _ (clear at.before.before.before.before) at.before.before.before.find-run.ensures at.before.which.given.1 c.before.before.explain-run.ensures c.enum-told3.given.1
 
 hand-over-requires : tie.Need-hand-over-requires
 hand-over-requires c κs = search rules
@@ -70,7 +70,7 @@ same_length c = search rules
 returns-4 : tie.Need-returns-4
 returns-4 c =
     let at = c.before.before.before.before.before.before.before.before in
-    one-finding _ _ _ _ _ _ _ _ (clear at.before.before.before.before) at.before.before.before.find-run.ensures at.before.which.given.1 c.before.before.before.before.before.before.before.explain-run.ensures c.before.before.before.before.before.explained.given.1 c.before.before.hand-over.ensures
+    one_finding _ _ _ _ _ _ _ _ (clear at.before.before.before.before) at.before.before.before.find-run.ensures at.before.which.given.1 c.before.before.before.before.before.before.before.explain-run.ensures c.before.before.before.before.before.explained.given.1 c.before.before.hand-over.ensures
 
 pub explain-spec : {M : Type 1} → statement M
 explain-spec =

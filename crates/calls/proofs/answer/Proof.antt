@@ -3,7 +3,7 @@ use mathlib.Core.Path.{refl}
 use native.Mathlib.Omega.{arith}
 use borrow.Author.Rules.{rules}
 use Rattle.numbered.proofs.Rest.{not_one_of, up_from, past_all}
-use Rattle.calls.specs.Requests.{byReduce, byRunCount, byRunNumber, byRoundLayout, byRectLayout, bySheetText, byReduceByFigure, bySheetTextByFigure, byExplain, byExplainByFigure, byExplainText, byExplainTextByFigure, byNone}
+use Rattle.calls.specs.Requests.{by_reduce, by_run_count, by_run_number, by_round_layout, by_rect_layout, by_sheet_text, by_reduce_by_figure, by_sheet_text_by_figure, by_explain, by_explain_by_figure, by_explain_text, by_explain_text_by_figure, by_none}
 use Rattle.calls.proofs.answer.Statement.{statement}
 use Rattle.calls.proofs.answer.Tie as tie
 
@@ -66,16 +66,16 @@ returns c =
     let called = c.before.before.before.before in
     let chosen = called.before.before.before in
     let first = chosen.before.before.before.before.before.before in
-    byReduce chosen.match.keys1 (rw first.u16-at.ensures at called.leverbonnet-reduce.ensures)
+    by_reduce chosen.match.keys1 (rw first.u16-at.ensures at called.leverbonnet-reduce.ensures)
 
 returns-2 : tie.Need-returns-2
-returns-2 c = byRunCount c.before.match.keys2 c.leverbonnet-run-count.ensures refl refl
+returns-2 c = by_run_count c.before.match.keys2 c.leverbonnet-run-count.ensures refl refl
 
 returns-3 : tie.Need-returns-3
 returns-3 c =
     let chosen = c.before in
     let first = chosen.before.before.before.before.before.before in
-    byRunNumber chosen.match.keys3 (rw first.u16-at.ensures at c.leverbonnet-run-number.ensures) refl refl
+    by_run_number chosen.match.keys3 (rw first.u16-at.ensures at c.leverbonnet-run-number.ensures) refl refl
 
 same-length-3 : tie.Need-same-length-3
 same-length-3 c = search rules
@@ -87,7 +87,7 @@ returns-4 c =
     let third = chosen.before.before in
     let second = third.before.before in
     let first = second.before.before in
-    byRoundLayout chosen.match.keys4 (rw (first.u16-at.ensures, second.u16-at2.ensures, third.u16-at3.ensures) at called.leverbonnet-round-layout.ensures) refl
+    by_round_layout chosen.match.keys4 (rw (first.u16-at.ensures, second.u16-at2.ensures, third.u16-at3.ensures) at called.leverbonnet-round-layout.ensures) refl
 
 same-length-4 : tie.Need-same-length-4
 same-length-4 c = search rules
@@ -99,7 +99,7 @@ returns-5 c =
     let third = chosen.before.before in
     let second = third.before.before in
     let first = second.before.before in
-    byRectLayout chosen.match.keys5 (rw (first.u16-at.ensures, second.u16-at2.ensures, third.u16-at3.ensures) at called.leverbonnet-rect-layout.ensures) refl
+    by_rect_layout chosen.match.keys5 (rw (first.u16-at.ensures, second.u16-at2.ensures, third.u16-at3.ensures) at called.leverbonnet-rect-layout.ensures) refl
 
 same-length-5 : tie.Need-same-length-5
 same-length-5 c = search rules
@@ -107,7 +107,7 @@ same-length-5 c = search rules
 returns-6 : tie.Need-returns-6
 returns-6 c =
     let called = c.before.before in
-    bySheetText called.before.before.match.keys6 called.leverbonnet-sheet-text.ensures refl
+    by_sheet_text called.before.before.match.keys6 called.leverbonnet-sheet-text.ensures refl
 
 same-length-6 : tie.Need-same-length-6
 same-length-6 c = search rules
@@ -120,7 +120,7 @@ returns-7 c =
     let called = c.before.before.before.before in
     let chosen = called.before.before.before in
     let first = chosen.before.before.before.before.before.before in
-    byReduceByFigure chosen.match.keys7 (rw first.u16-at.ensures at called.leverbonnet-reduce-by-figure.ensures)
+    by_reduce_by_figure chosen.match.keys7 (rw first.u16-at.ensures at called.leverbonnet-reduce-by-figure.ensures)
 
 same-length-8 : tie.Need-same-length-8
 same-length-8 c = search rules
@@ -128,7 +128,7 @@ same-length-8 c = search rules
 returns-8 : tie.Need-returns-8
 returns-8 c =
     let called = c.before.before in
-    bySheetTextByFigure called.before.before.match.keys8 called.leverbonnet-sheet-text-by-figure.ensures refl
+    by_sheet_text_by_figure called.before.before.match.keys8 called.leverbonnet-sheet-text-by-figure.ensures refl
 
 same-length-9 : tie.Need-same-length-9
 same-length-9 c = search rules
@@ -140,7 +140,7 @@ returns-9 c =
     let third = chosen.before.before in
     let second = third.before.before in
     let first = second.before.before in
-    byExplain chosen.match.keys9 (rw (first.u16-at.ensures, second.u16-at2.ensures, third.u16-at3.ensures) at called.leverbonnet-explain.ensures) refl
+    by_explain chosen.match.keys9 (rw (first.u16-at.ensures, second.u16-at2.ensures, third.u16-at3.ensures) at called.leverbonnet-explain.ensures) refl
 
 same-length-10 : tie.Need-same-length-10
 same-length-10 c = search rules
@@ -152,7 +152,7 @@ returns-10 c =
     let third = chosen.before.before in
     let second = third.before.before in
     let first = second.before.before in
-    byExplainByFigure chosen.match.keys10 (rw (first.u16-at.ensures, second.u16-at2.ensures, third.u16-at3.ensures) at called.leverbonnet-explain-by-figure.ensures) refl
+    by_explain_by_figure chosen.match.keys10 (rw (first.u16-at.ensures, second.u16-at2.ensures, third.u16-at3.ensures) at called.leverbonnet-explain-by-figure.ensures) refl
 
 same-length-11 : tie.Need-same-length-11
 same-length-11 c = search rules
@@ -164,7 +164,7 @@ returns-11 c =
     let third = chosen.before.before in
     let second = third.before.before in
     let first = second.before.before in
-    byExplainText chosen.match.keys11 (rw (first.u16-at.ensures, second.u16-at2.ensures, third.u16-at3.ensures) at called.leverbonnet-explain-text.ensures) refl
+    by_explain_text chosen.match.keys11 (rw (first.u16-at.ensures, second.u16-at2.ensures, third.u16-at3.ensures) at called.leverbonnet-explain-text.ensures) refl
 
 same-length-12 : tie.Need-same-length-12
 same-length-12 c = search rules
@@ -176,12 +176,12 @@ returns-12 c =
     let third = chosen.before.before in
     let second = third.before.before in
     let first = second.before.before in
-    byExplainTextByFigure chosen.match.keys12 (rw (first.u16-at.ensures, second.u16-at2.ensures, third.u16-at3.ensures) at called.leverbonnet-explain-text-by-figure.ensures) refl
+    by_explain_text_by_figure chosen.match.keys12 (rw (first.u16-at.ensures, second.u16-at2.ensures, third.u16-at3.ensures) at called.leverbonnet-explain-text-by-figure.ensures) refl
 
 returns-13 : tie.Need-returns-13
 returns-13 c =
     let other = (not_one_of (up_from 1 12) _ _ c.match.rest).0 in
-    byNone (λ least most. omega (arith, past_all 1 12 _ other least)) refl refl refl
+    by_none (λ least most. omega (arith, past_all 1 12 _ other least)) refl refl refl
 
 pub answer-spec : {M : Type 1} → statement M
 answer-spec =

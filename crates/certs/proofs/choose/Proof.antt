@@ -7,7 +7,7 @@ use Rattle.heads.specs.Values.{certificate_of}
 use Rattle.heads.proofs.Places.{ends_before}
 use Rattle.choosing.specs.declared.Lookup.TheVariants.{Found}
 use Rattle.choosing.specs.Choosing.{chosen}
-use Rattle.certs.proofs.Best.{lookupAt, Best, best_none, best-replaced, best-kept}
+use Rattle.certs.proofs.Best.{lookup_at, Best, best_none, best_replaced, best_kept}
 use Rattle.certs.proofs.choose.Statement.{statement}
 use Rattle.certs.proofs.choose.Tie as tie
 
@@ -38,7 +38,7 @@ loop-less c = omega (arith, c.before.before.before.loop-test.true)
 loop-again : tie.Need-loop-preserved invariant-loop decreases-loop
 loop-again c =
     let so_far = c.before.before.before.before.loop.invariant.1 in
-    (omega (arith, c.before.before.before.loop-test.true), best-replaced _ _ _ _ _ _ so_far c.before.before.nth.ensures c.before.replaces.ensures c.if1.true)
+    (omega (arith, c.before.before.before.loop-test.true), best_replaced _ _ _ _ _ _ so_far c.before.before.nth.ensures c.before.replaces.ensures c.if1.true)
 
 loop-less-2 : tie.Need-loop-smaller-2 invariant-loop decreases-loop
 loop-less-2 c = omega (arith, c.before.before.before.loop-test.true)
@@ -46,7 +46,7 @@ loop-less-2 c = omega (arith, c.before.before.before.loop-test.true)
 loop-again-2 : tie.Need-loop-preserved-2 invariant-loop decreases-loop
 loop-again-2 c =
     let so_far = c.before.before.before.before.loop.invariant.1 in
-    (omega (arith, c.before.before.before.loop-test.true), best-kept _ _ _ _ _ _ so_far c.before.before.nth.ensures c.before.replaces.ensures c.if1.false)
+    (omega (arith, c.before.before.before.loop-test.true), best_kept _ _ _ _ _ _ so_far c.before.before.nth.ensures c.before.replaces.ensures c.if1.false)
 
 returns : tie.Need-returns invariant-loop decreases-loop
 returns c =
@@ -54,7 +54,7 @@ returns c =
     let a = c.before.before.before.before.args in
     let end : turn.i ≡ a.count = omega (arith, turn.invariant.0, c.before.loop-test.false) in
     let f = certificate_of a.s.now in
-    ap (lookupAt a.after a.kind a.identity a.day f) (sym c.if2.true) ∙ turn.invariant.1.is ∙ ap (chosen a.after a.kind a.identity a.day f) end
+    ap (lookup_at a.after a.kind a.identity a.day f) (sym c.if2.true) ∙ turn.invariant.1.is ∙ ap (chosen a.after a.kind a.identity a.day f) end
 
 sub-nth : tie.Need-overflow-sub-nth invariant-loop decreases-loop
 sub-nth c = search rules
@@ -73,7 +73,7 @@ returns-2 c =
     let end : turn.i ≡ a.count = omega (arith, turn.invariant.0, c.before.before.loop-test.false) in
     let some : suc (turn.best - 1) ≡ turn.best = omega (arith, sub-nth c.before) in
     let f = certificate_of a.s.now in
-    ap Found c.nth2.ensures ∙ ap (lookupAt a.after a.kind a.identity a.day f) some ∙ turn.invariant.1.is ∙ ap (chosen a.after a.kind a.identity a.day f) end
+    ap Found c.nth2.ensures ∙ ap (lookup_at a.after a.kind a.identity a.day f) some ∙ turn.invariant.1.is ∙ ap (chosen a.after a.kind a.identity a.day f) end
 
 pub choose_spec : {M : Type 1} → statement M
 choose_spec =

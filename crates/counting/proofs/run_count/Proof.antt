@@ -1,7 +1,7 @@
 -- The reader's refusal, or its count.
 use borrow.Author.Rules.{rules}
 use native.Mathlib.Omega.{arith}
-use Rattle.job.proofs.ReadJobs.{read_clear, few-runs, place_fits}
+use Rattle.job.proofs.ReadJobs.{read_clear, few_runs, place_fits}
 use Rattle.counting.proofs.Counting.{count_refused, count_done}
 use Rattle.counting.proofs.run_count.Statement.{statement}
 use Rattle.counting.proofs.run_count.Tie as tie
@@ -22,7 +22,7 @@ enum_told : tie.Need-enum-told
 enum_told c = search rules
 
 cast-t7 : tie.Need-overflow-cast-t7
-cast-t7 c = omega (arith, few-runs _ _ (read_clear _ c.before.before.before.read.ensures c.before.enum_told.given.1))
+cast-t7 c = omega (arith, few_runs _ _ (read_clear _ c.before.before.before.read.ensures c.before.enum_told.given.1))
 
 returns-2 : tie.Need-returns-2
 returns-2 c = count_done _ _ (read_clear _ c.before.before.before.read.ensures c.before.enum_told.given.1)

@@ -1,7 +1,7 @@
 -- The reader's refusal, none past the last run, or the number at the run's start.
 use borrow.Author.Rules.{rules}
 use native.Mathlib.Omega.{arith}
-use Rattle.job.proofs.ReadJobs.{read_clear, few-runs, number-left, place_fits}
+use Rattle.job.proofs.ReadJobs.{read_clear, few_runs, number_left, place_fits}
 use Rattle.counting.proofs.Counting.{number_refused, number_past, number_done}
 use Rattle.counting.proofs.run_number.Statement.{statement}
 use Rattle.counting.proofs.run_number.Tie as tie
@@ -28,13 +28,13 @@ mul-tail : tie.Need-overflow-mul-tail
 mul-tail c = search rules
 
 array-read-tail : tie.Need-array-read-tail
-array-read-tail c = omega (arith, few-runs _ _ (read_clear _ c.before.before.before.before.before.read.ensures c.before.before.before.enum_told.given.1), c.before.if1.false)
+array-read-tail c = omega (arith, few_runs _ _ (read_clear _ c.before.before.before.before.before.read.ensures c.before.before.before.enum_told.given.1), c.before.if1.false)
 
 tail-requires : tie.Need-tail-requires
 tail-requires c κs = search rules
 
 u16-at-requires : tie.Need-u16-at-requires
-u16-at-requires c κs = number-left _ _ (read_clear _ c.before.before.before.before.before.before.read.ensures c.before.before.before.before.enum_told.given.1) _ c.before.before.if1.false c.tail.ensures
+u16-at-requires c κs = number_left _ _ (read_clear _ c.before.before.before.before.before.before.read.ensures c.before.before.before.before.enum_told.given.1) _ c.before.before.if1.false c.tail.ensures
 
 cast-t17 : tie.Need-overflow-cast-t17
 cast-t17 c = search rules

@@ -8,7 +8,7 @@ use native.Mathlib.Omega.{arith}
 use Rattle.grounds.specs.declared.Ground.{Ground}
 use Rattle.grounds.specs.declared.Ground.TheVariants.{Silent}
 use Rattle.grounds.specs.contracts.Ground.{the_type}
-use Rattle.explaining.proofs.Because.{beneath, beyond, no-finding, has-finding}
+use Rattle.explaining.proofs.Because.{beneath, beyond, no_finding_lem, has_finding}
 use Rattle.explaining.proofs.explain_run.Statement.{statement}
 use Rattle.explaining.proofs.explain_run.Tie as tie
 
@@ -32,7 +32,7 @@ enum_told : tie.Need-enum-told
 enum_told c = search rules
 
 returns-3 : tie.Need-returns-3
-returns-3 c = no-finding _ _ _ _ _ c.before.before.reduce.ensures c.enum_told.given.1
+returns-3 c = no_finding_lem _ _ _ _ _ c.before.before.reduce.ensures c.enum_told.given.1
 
 explanation-by-requires : tie.Need-explanation-by-requires
 explanation-by-requires c κs = search rules
@@ -42,7 +42,7 @@ something : {g : Ground} → OneOf (1 ∷ 2 ∷ 3 ∷ 4 ∷ 5 ∷ []) (tag_of th
 something other none = miss (1 ∷ 2 ∷ 3 ∷ 4 ∷ 5 ∷ []) 0 tt (rw none at other)
 
 returns-4 : tie.Need-returns-4
-returns-4 c = has-finding _ _ _ _ _ c.before.before.reduce.ensures (something c.before.match.keys2) c.explanation-by.ensures
+returns-4 c = has_finding _ _ _ _ _ c.before.before.reduce.ensures (something c.before.match.keys2) c.explanation-by.ensures
 
 pub explain-run-spec : {M : Type 1} → statement M
 explain-run-spec =

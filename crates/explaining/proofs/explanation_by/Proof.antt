@@ -1,8 +1,8 @@
 -- The header is read at the run's place, and the days are chosen from the job's certificates.
 use borrow.Author.Rules.{rules}
 use native.Mathlib.Omega.{arith}
-use Rattle.parts.proofs.Places.{header-left}
-use Rattle.job.proofs.ReadJobs.{few-runs, count-of-runs, lies_within}
+use Rattle.parts.proofs.Places.{header_left}
+use Rattle.job.proofs.ReadJobs.{few_runs, count_of_runs, lies_within}
 use Rattle.reduction.proofs.ClearJobs.{workable}
 use Rattle.explaining.proofs.Because.{put_together}
 use Rattle.explaining.proofs.explanation_by.Statement.{statement}
@@ -16,12 +16,12 @@ version-requires c κs =
 mul-tail : tie.Need-overflow-mul-tail
 mul-tail c =
     let ok = c.before.before.before.requires in
-    omega (arith, few-runs _ _ ok.job, count-of-runs _ _ ok.job, ok.inside)
+    omega (arith, few_runs _ _ ok.job, count_of_runs _ _ ok.job, ok.inside)
 
 array-read-tail : tie.Need-array-read-tail
 array-read-tail c =
     let ok = c.before.before.before.requires in
-    omega (arith, few-runs _ _ ok.job, count-of-runs _ _ ok.job, ok.inside)
+    omega (arith, few_runs _ _ ok.job, count_of_runs _ _ ok.job, ok.inside)
 
 tail-requires : tie.Need-tail-requires
 tail-requires c κs = search rules
@@ -29,7 +29,7 @@ tail-requires c κs = search rules
 header-requires : tie.Need-header-requires
 header-requires c κs =
     let ok = c.before.before.before.before.requires in
-    rw c.before.before.version.ensures (header-left _ _ (lies_within _ _ ok.job _ ok.inside) c.tail.ensures)
+    rw c.before.before.version.ensures (header_left _ _ (lies_within _ _ ok.job _ ok.inside) c.tail.ensures)
 
 class-requires : tie.Need-class-requires
 class-requires c κs = search rules

@@ -2,7 +2,7 @@
 use mathlib.Core.Path.{sym, ◌∙◌}
 use native.Mathlib.Omega.{arith}
 use borrow.Author.Rules.{rules}
-use Rattle.figures.proofs.Clear.{few_steps, last-clear, next-clear, is_refused, is_read}
+use Rattle.figures.proofs.Clear.{few_steps, last_clear, next_clear, is_refused, is_read}
 use Rattle.figures.proofs.read.Statement.{statement}
 use Rattle.figures.proofs.read.Tie as tie
 
@@ -24,7 +24,7 @@ returns c = is_refused _ c.before.before.before.trouble.ensures c.before.enum-to
 steps-requires : tie.Need-steps-requires
 steps-requires c κs =
     let clear = sym c.before.before.trouble.ensures ∙ c.enum_told.given.1 in
-    (omega arith, few_steps _ _ (last-clear _ clear))
+    (omega arith, few_steps _ _ (last_clear _ clear))
 
 end-requires : tie.Need-end-requires
 end-requires c κs = search rules
@@ -33,7 +33,7 @@ steps-requires-2 : tie.Need-steps-requires-2
 steps-requires-2 c κs =
     let read = c.before.before in
     let clear = sym read.before.before.trouble.ensures ∙ read.enum_told.given.1 in
-    (omega (arith, c.end.ensures.1), rw c.end.ensures.0 (few_steps _ _ (next-clear _ clear)))
+    (omega (arith, c.end.ensures.1), rw c.end.ensures.0 (few_steps _ _ (next_clear _ clear)))
 
 returns-2 : tie.Need-returns-2
 returns-2 c =

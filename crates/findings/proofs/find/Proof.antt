@@ -21,11 +21,11 @@ use Rattle.rules.specs.Rules.{last_rule, ground_of}
 use Rattle.findings.specs.declared.Finding.{Finding}
 use Rattle.findings.specs.Listing.{part_of, finding_at, findings_to, rule_findings, most_findings}
 use Rattle.arrays.proofs.Filled.{filled_none}
-use Rattle.findings.proofs.Filling.{Entered, entered-first, entered-room, entered-found, entered-passed, entered-rule, fewer}
-use Rattle.findings.proofs.Places.{part-point, part-segment, part-weighing, part-whole}
-use Rattle.findings.proofs.InRange.{point-in, segment-in, weighing-in, weighings-in, judgeable}
-use Rattle.findings.proofs.Most.{all-fit-beside}
-use Rattle.findings.proofs.Seeking.{places_from, places_above, places_fewer, Passed, PassedTo, passed_more, passed-rule, nothing-before, met, not-met}
+use Rattle.findings.proofs.Filling.{Entered, entered_first, entered_room, entered_found, entered_passed, entered_rule, fewer}
+use Rattle.findings.proofs.Places.{part_point, part_segment, part_weighing, part_whole}
+use Rattle.findings.proofs.InRange.{point_in, segment_in, weighing_in, weighings_in, judgeable}
+use Rattle.findings.proofs.Most.{all_fit_beside}
+use Rattle.findings.proofs.Seeking.{places_from, places_above, places_fewer, Passed, PassedTo, passed_more, passed_rule, nothing_before, met, not_met}
 use Rattle.findings.proofs.find.Statement.{statement}
 use Rattle.findings.proofs.find.Tie as tie
 
@@ -53,7 +53,7 @@ abbrev decreases-loop : tie.decreases-loop
 decreases-loop v header points segments weighings beside last place found₀ count₀ done₀ found count done = last - done
 
 beside-of-requires : tie.Need-beside-of-requires invariant-loop2 decreases-loop2 invariant-loop decreases-loop
-beside-of-requires c κs = weighings-in _ _ c.before.before.before.before.requires.0
+beside-of-requires c κs = weighings_in _ _ c.before.before.before.before.requires.0
 
 last-requires : tie.Need-last-requires invariant-loop2 decreases-loop2 invariant-loop decreases-loop
 last-requires c κs = search rules
@@ -81,8 +81,8 @@ begun t = t.before.before.before.before.before
 abbrev beside : (b : Begun) → Beside
 beside b = b.before.before.before.beside-of.result
 
-abbrev isBroken : Begun → ℕ → ℕ → Bool
-isBroken b rule i = broken (ground_of (part_of (start b).args.run rule i) (beside b) rule)
+abbrev is_broken : Begun → ℕ → ℕ → Bool
+is_broken b rule i = broken (ground_of (part_of (start b).args.run rule i) (beside b) rule)
 
 loop-holds : tie.Need-loop-init invariant-loop2 decreases-loop2 invariant-loop decreases-loop
 loop-holds c =
@@ -90,7 +90,7 @@ loop-holds c =
       (le_refl _, omega (arith, some, c.before2.ensures, c.before.before.last.ensures)),
       (
         (λ rule above below. absurd (omega (arith, above, below))),
-        rw (nothing-before _ _ _ _ _ (le_refl _)) (filled_none _ _),
+        rw (nothing_before _ _ _ _ _ (le_refl _)) (filled_none _ _),
       ),
     )
 
@@ -102,7 +102,7 @@ places-requires c κs = search rules
 
 loop2-holds : tie.Need-loop2-init invariant-loop2 decreases-loop2 invariant-loop decreases-loop
 loop2-holds c =
-    (omega arith, ((λ i h. absurd (omega (arith, h))), (λ fs s. entered-first _ (isBroken c.before.before.before) fs (c.before.before.loop.done + 1) s)))
+    (omega arith, ((λ i h. absurd (omega (arith, h))), (λ fs s. entered_first _ (is_broken c.before.before.before) fs (c.before.before.loop.done + 1) s)))
 
 cast-t28 : tie.Need-overflow-cast-t28 invariant-loop2 decreases-loop2 invariant-loop decreases-loop
 cast-t28 c = omega arith
@@ -133,8 +133,8 @@ passed t = t.before.loop2.i
 abbrev before-all : Turn → ℕ
 before-all t = (begun t).before2.result
 
-fits : (b : Begun) → length (findings_to (start b).args.v (isBroken b) (places_from b.before2.result (start b).args.run.header.counts) last_rule) ≤ most_findings
-fits b = le_trans (fewer _ _ _ _ (places_fewer _ _) _) (all-fit-beside _ _ _ _ _ (start b).pre.0 b.before.before.before.beside-of.ensures)
+fits : (b : Begun) → length (findings_to (start b).args.v (is_broken b) (places_from b.before2.result (start b).args.run.header.counts) last_rule) ≤ most_findings
+fits b = le_trans (fewer _ _ _ _ (places_fewer _ _) _) (all_fit_beside _ _ _ _ _ (start b).pre.0 b.before.before.before.beside-of.ensures)
 
 rule-in : (t : Turn) → done t < last_rule
 rule-in t =
@@ -152,25 +152,25 @@ place-above : (t : Turn) → passed t < places_from (before-all t) (start (begun
 place-above t = rw (places_above _ _ _ (above t)) (place_in t)
 
 -- what is entered when a turn begins
-entered : (t : Turn) → Entered (findings_to (start (begun t)).args.v (isBroken (begun t)) (places_from (before-all t) (start (begun t)).args.run.header.counts) (done t) ++ rule_findings (start (begun t)).args.v (isBroken (begun t) (done t + 1)) (done t + 1) (passed t)) t.before.loop2.count t.before.loop2.found.list
+entered : (t : Turn) → Entered (findings_to (start (begun t)).args.v (is_broken (begun t)) (places_from (before-all t) (start (begun t)).args.run.header.counts) (done t) ++ rule_findings (start (begun t)).args.v (is_broken (begun t) (done t + 1)) (done t + 1) (passed t)) t.before.loop2.count t.before.loop2.found.list
 entered t = t.before.loop2.inv.1.1 _ t.before.before.before.before.loop.inv.1.1
 
 array-copy-out-t32 : tie.Need-array-copy-out-t32 invariant-loop2 decreases-loop2 invariant-loop decreases-loop
-array-copy-out-t32 c = point-in _ _ (start (begun c.before)).pre.0 c.match.keys1 (place_in c.before)
+array-copy-out-t32 c = point_in _ _ (start (begun c.before)).pre.0 c.match.keys1 (place_in c.before)
 
 array-copy-out-t37 : tie.Need-array-copy-out-t37 invariant-loop2 decreases-loop2 invariant-loop decreases-loop
-array-copy-out-t37 c = segment-in _ _ (start (begun c.before)).pre.0 c.match.keys2 (place_in c.before)
+array-copy-out-t37 c = segment_in _ _ (start (begun c.before)).pre.0 c.match.keys2 (place_in c.before)
 
 array-copy-out-t42 : tie.Need-array-copy-out-t42 invariant-loop2 decreases-loop2 invariant-loop decreases-loop
-array-copy-out-t42 c = weighing-in _ _ (start (begun c.before)).pre.0 c.match.keys3 (place_in c.before)
+array-copy-out-t42 c = weighing_in _ _ (start (begun c.before)).pre.0 c.match.keys3 (place_in c.before)
 
 -- the part that the rule looks at
 part-is : (c : tie.At-match-branch invariant-loop2 decreases-loop2 invariant-loop decreases-loop) → c.match.part ≡ part_of (start (begun c.before)).args.run (done c.before + 1) (passed c.before)
 part-is c =
-    ⊎_elim (λ w. w.2 ∙ part-point _ _ w.0.keys1)
-    (⊎_elim (λ w. w.2 ∙ part-segment _ _ w.0.keys2)
-    (⊎_elim (λ w. w.2 ∙ part-weighing _ _ w.0.keys3)
-    (λ w. w.1 ∙ part-whole _ _ w.0.rest.0.0.1 w.0.rest.0.1 w.0.rest.1)))
+    ⊎_elim (λ w. w.2 ∙ part_point _ _ w.0.keys1)
+    (⊎_elim (λ w. w.2 ∙ part_segment _ _ w.0.keys2)
+    (⊎_elim (λ w. w.2 ∙ part_weighing _ _ w.0.keys3)
+    (λ w. w.1 ∙ part_whole _ _ w.0.rest.0.0.1 w.0.rest.0.1 w.0.rest.1)))
     c.match.branch
 
 ground-of-requires : tie.Need-ground-of-requires invariant-loop2 decreases-loop2 invariant-loop decreases-loop
@@ -182,7 +182,7 @@ broken-requires : tie.Need-broken-requires invariant-loop2 decreases-loop2 invar
 broken-requires c κs = search rules
 
 -- the test is whether the rule is broken there
-test-is : (c : tie.After-broken invariant-loop2 decreases-loop2 invariant-loop decreases-loop) → c.broken.result ≡ isBroken (begun c.before.before.before) (done c.before.before.before + 1) (passed c.before.before.before)
+test-is : (c : tie.After-broken invariant-loop2 decreases-loop2 invariant-loop decreases-loop) → c.broken.result ≡ is_broken (begun c.before.before.before) (done c.before.before.before + 1) (passed c.before.before.before)
 test-is c = rw (← part-is c.before.before, ← c.before.ground-of.ensures) c.broken.ensures
 
 finding-at-requires : tie.Need-finding-at-requires invariant-loop2 decreases-loop2 invariant-loop decreases-loop
@@ -211,7 +211,7 @@ returns c =
 has_room : (c : tie.After-broken invariant-loop2 decreases-loop2 invariant-loop decreases-loop) → c.broken.result ≡ true → c.before.before.before.before.loop2.count < most_findings
 has_room c broke =
     let turn = c.before.before.before in
-    entered-room _ _ _ _ _ (fits (begun turn)) (rule-in turn) (place-above turn) (test-is c) broke (entered turn)
+    entered_room _ _ _ _ _ (fits (begun turn)) (rule-in turn) (place-above turn) (test-is c) broke (entered turn)
 
 mul-finding : tie.Need-overflow-mul-finding invariant-loop2 decreases-loop2 invariant-loop decreases-loop
 mul-finding c = omega (arith, has_room c.before.before.before.before c.before.before.before.if1.true)
@@ -238,15 +238,15 @@ loop2-again c =
     (λ w. (
       omega arith,
       (
-        passed_more (isBroken (begun turn)) _ _ _ (λ broke at. w.3.left (ap (λ (f : Finding). f.place) w.1.ensures ∙ at)) inv.1.0,
-        (λ fs s. rw (w.4, w.5) (entered-found _ (isBroken (begun turn)) fs _ _ (has_room c.before w.0.taken) test w.0.taken w.1.ensures (inv.1.1 fs s))),
+        passed_more (is_broken (begun turn)) _ _ _ (λ broke at. w.3.left (ap (λ (f : Finding). f.place) w.1.ensures ∙ at)) inv.1.0,
+        (λ fs s. rw (w.4, w.5) (entered_found _ (is_broken (begun turn)) fs _ _ (has_room c.before w.0.taken) test w.0.taken w.1.ensures (inv.1.1 fs s))),
       ),
     ))
     (λ w. (
       omega arith,
       (
-        passed_more (isBroken (begun turn)) _ _ _ (λ broke at. true≢false (sym broke ∙ sym test ∙ w.0.left)) inv.1.0,
-        (λ fs s. rw (w.1, w.2) (entered-passed _ (isBroken (begun turn)) fs _ _ test w.0.left (inv.1.1 fs s))),
+        passed_more (is_broken (begun turn)) _ _ _ (λ broke at. true≢false (sym broke ∙ sym test ∙ w.0.left)) inv.1.0,
+        (λ fs s. rw (w.1, w.2) (entered_passed _ (is_broken (begun turn)) fs _ _ test w.0.left (inv.1.1 fs s))),
       ),
     ))
     c.if1.branch
@@ -263,8 +263,8 @@ loop-again c =
     let last-place = all ∙ c.before.before.places.ensures in (
       (omega (arith, above.0.0), omega (arith, c.before.before.before.loop-test.true)),
       (
-        passed-rule _ _ _ _ _ (rw last-place at inside.1.0) above.1.0,
-        entered-rule _ _ _ _ _ (last-place ∙ sym (places_above _ _ _ above.0.0)) (inside.1.1 _ above.1.1),
+        passed_rule _ _ _ _ _ (rw last-place at inside.1.0) above.1.0,
+        entered_rule _ _ _ _ _ (last-place ∙ sym (places_above _ _ _ above.0.0)) (inside.1.1 _ above.1.1),
       ),
     )
 
@@ -274,7 +274,7 @@ returns-2 c =
     let begun = start b in
     let end : c.before.loop.done ≡ b.before.before.last.result = omega (arith, c.before.loop.invariant.0.1) in
     let last-is = end ∙ b.before.before.last.ensures in
-    not-met _ _ _ _ _ begun.args.sought b.before2.result b.before.before.before.beside-of.ensures b.before2.ensures b.before.place.ensures begun.pre.1.some
+    not_met _ _ _ _ _ begun.args.sought b.before2.result b.before.before.before.beside-of.ensures b.before2.ensures b.before.place.ensures begun.pre.1.some
     (rw last-is at c.before.loop.invariant.1.0)
     (rw last-is at c.before.loop.invariant.1.1)
 

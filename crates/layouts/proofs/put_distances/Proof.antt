@@ -5,7 +5,7 @@ use native.Mathlib.Omega.{arith}
 use borrow.Author.Rules.{rules}
 use lib.ListN.{length}
 use Rattle.output.specs.Splice.{spliced}
-use Rattle.output.proofs.Records.{Put, put_none, put-length, put-more, put_all}
+use Rattle.output.proofs.Records.{Put, put_none, put_length, put_more, put_all}
 use Rattle.traverse.specs.Layout.{most_distances}
 use Rattle.layouts.specs.Outcomes.{distance_size}
 use Rattle.layouts.proofs.Distances.{distance_at, distance_size_lem, front_bytes}
@@ -36,7 +36,7 @@ cast-put-number c = search rules
 put-number-requires : tie.Need-put-number-requires invariant-loop decreases-loop
 put-number-requires c κs =
     let (past, put) = c.before.before.loop.invariant in
-    omega (arith, put-length put (omega arith))
+    omega (arith, put_length put (omega arith))
 
 add-i : tie.Need-overflow-add-i invariant-loop decreases-loop
 add-i c = omega arith
@@ -47,10 +47,10 @@ loop-less c = omega arith
 loop-again : tie.Need-loop-preserved invariant-loop decreases-loop
 loop-again c =
     let turn = c.before.before.before.before in
-    (omega arith, put-more turn.before.loop.invariant.1 (omega arith) c.before.before.put-number.ensures)
+    (omega arith, put_more turn.before.loop.invariant.1 (omega arith) c.before.before.put-number.ensures)
 
 same_length : tie.Need-same-length invariant-loop decreases-loop
-same_length c = put-length c.before.loop.invariant.1 (omega arith)
+same_length c = put_length c.before.loop.invariant.1 (omega arith)
 
 returns : tie.Need-returns invariant-loop decreases-loop
 returns c =

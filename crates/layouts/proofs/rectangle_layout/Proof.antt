@@ -5,7 +5,7 @@ use mathlib.Core.Path.{◌≡◌, sym, ◌∙◌}
 use lib.ListN.{length}
 use Rattle.traverse.specs.Layout.{most_distances}
 use Rattle.layouts.specs.Outcomes.{rectangle_outcome}
-use Rattle.layouts.proofs.Answers.{refused_outside, inside, held-few, held-front}
+use Rattle.layouts.proofs.Answers.{refused_outside, inside, held_few, held_front}
 use Rattle.layouts.proofs.rectangle_layout.Statement.{statement}
 use Rattle.layouts.proofs.rectangle_layout.Tie as tie
 
@@ -23,7 +23,7 @@ put-layout-requires : tie.Need-put-layout-requires
 put-layout-requires c κs =
     let laid = c.before.rectangle in
     let long : length laid.result.distances ≡ most_distances = search rules in
-    held-few laid.ensures long
+    held_few laid.ensures long
 
 same_length : tie.Need-same-length
 same_length c = search rules
@@ -35,7 +35,7 @@ returns-2 c =
     let laid = past.rectangle in
     let long : length laid.result.distances ≡ most_distances = search rules in
     let fits = sym past.before.before.rectangle-fits.ensures ∙ not-false _ past.before.if1.false in
-    inside _ _ fits (rw (held-front laid.ensures long) at c.before.before.put-layout.ensures)
+    inside _ _ fits (rw (held_front laid.ensures long) at c.before.before.put-layout.ensures)
 
 pub rectangle-layout-spec : {M : Type 1} → statement M
 rectangle-layout-spec =

@@ -5,12 +5,12 @@ use Rattle.opening.specs.Opening.{file_header_size}
 use Rattle.fields.specs.Trouble.{checks}
 use Rattle.fields.proofs.FirstTrouble.{step, from_zero}
 use Rattle.readings.specs.Ranges.{version, certificate_count, run_count}
-use Rattle.fields.proofs.RecordTrouble.{short-at, whole-at}
+use Rattle.fields.proofs.RecordTrouble.{short_at, whole_at}
 use Rattle.opening.proofs.trouble.Statement.{statement}
 use Rattle.opening.proofs.trouble.Tie as tie
 
 returns : tie.Need-returns
-returns c = short-at c.before.before.args.s.now 0 file_header_size _ refl c.if1.true
+returns c = short_at c.before.before.args.s.now 0 file_header_size _ refl c.if1.true
 
 marked-requires : tie.Need-marked-requires
 marked-requires c κs = search rules
@@ -57,7 +57,7 @@ returns-2 c =
     let row3 = step 3 3 number.unless2.ensures row0 (number.before.check.ensures ∙ ap version number.before.before.u16-at.ensures) in
     let row5 = step 4 5 certificates.unless3.ensures row3 (certificates.before.check2.ensures ∙ ap certificate_count certificates.before.before.u16-at2.ensures) in
     let row7 = step 4 7 runs.unless4.ensures row5 (runs.before.check3.ensures ∙ ap run_count runs.before.before.u16-at3.ensures) in
-    whole-at whole.before.before.args.s.now 0 file_header_size _ refl whole.if1.false row7 (from_zero _)
+    whole_at whole.before.before.args.s.now 0 file_header_size _ refl whole.if1.false row7 (from_zero _)
 
 pub trouble-spec : {M : Type 1} → statement M
 trouble-spec =

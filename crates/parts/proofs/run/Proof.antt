@@ -10,7 +10,7 @@ use Rattle.records.specs.Records.{no_point, no_segment, no_weighing}
 use Rattle.readings.specs.Ranges.{greatest_point_count, greatest_segment_count, greatest_weighing_count}
 use Rattle.heads.specs.Values.{run_header_size, header, header_at}
 use Rattle.parts.specs.Values.{point_size, segment_size, weighing_size, point, segment, weighing, point_place, segment_place, run_at}
-use Rattle.parts.proofs.Places.{further, filled, header-left, points-few, segments-few, weighings-few, points-left, segments-left, weighings-left}
+use Rattle.parts.proofs.Places.{further, filled, header_left, points_few, segments_few, weighings_few, points_left, segments_left, weighings_left}
 use Rattle.parts.proofs.run.Statement.{statement}
 use Rattle.parts.proofs.run.Tie as tie
 
@@ -20,7 +20,7 @@ tail-requires c κs = search rules
 header-requires : tie.Need-header-requires
 header-requires c κs =
     let start = c.before.before in
-    rw start.requires.0 (header-left _ _ start.requires.1 c.tail.ensures)
+    rw start.requires.0 (header_left _ _ start.requires.1 c.tail.ensures)
 
 cast-points : tie.Need-overflow-cast-points
 cast-points c = search rules
@@ -94,21 +94,21 @@ points-requires : tie.Need-points-requires
 points-requires c κs =
     let points = c.before.before in
     let within = (start_of points).requires.1 in
-    (points-few _ _ within (counts-read points), points-left _ _ within (counts-read points) (points-at points))
+    (points_few _ _ within (counts-read points), points_left _ _ within (counts-read points) (points-at points))
 
 segments-requires : tie.Need-segments-requires
 segments-requires c κs =
     let segments = c.before.before in
     let within = (start_of segments.before).requires.1 in
     let n = counts-read segments.before in
-    (segments-few _ _ within n, segments-left _ _ within n (segments-at segments))
+    (segments_few _ _ within n, segments_left _ _ within n (segments-at segments))
 
 weighings-requires : tie.Need-weighings-requires
 weighings-requires c κs =
     let weighings = c.before.before in
     let within = (start_of weighings.before.before).requires.1 in
     let n = counts-read weighings.before.before in
-    (weighings-few _ _ within n, weighings-left _ _ within n (weighings-at weighings))
+    (weighings_few _ _ within n, weighings_left _ _ within n (weighings-at weighings))
 
 returns : tie.Need-returns
 unfolding run_at

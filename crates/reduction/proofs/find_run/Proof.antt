@@ -5,7 +5,7 @@ use mathlib.Core.Logic.{inl, inr, ⊎_elim}
 use mathlib.Core.Path.{◌≡◌, ◌∙◌, ap}
 use Rattle.fields.specs.Numbers.{u16_at}
 use Rattle.reduction.specs.Reducing.{run_named}
-use Rattle.job.proofs.ReadJobs.{few-runs, count-of-runs, start_of, number-left}
+use Rattle.job.proofs.ReadJobs.{few_runs, count_of_runs, start_of, number_left}
 use Rattle.reduction.proofs.Naming.{Sought, sought_none, sought_more}
 use native.Mathlib.Nat.{le_antisymm}
 use Prim.Native.Nat.{◌-◌, ◌≤◌}
@@ -22,19 +22,19 @@ loop-holds : tie.Need-loop-init invariant-loop decreases-loop
 loop-holds c = (omega arith, sought_none _ _)
 
 mul-tail : tie.Need-overflow-mul-tail invariant-loop decreases-loop
-mul-tail c = omega (arith, c.loop-test.true, few-runs _ _ c.before.before.before.before.requires)
+mul-tail c = omega (arith, c.loop-test.true, few_runs _ _ c.before.before.before.before.requires)
 
 array-read-tail : tie.Need-array-read-tail invariant-loop decreases-loop
-array-read-tail c = omega (arith, c.loop-test.true, few-runs _ _ c.before.before.before.before.requires)
+array-read-tail c = omega (arith, c.loop-test.true, few_runs _ _ c.before.before.before.before.requires)
 
 tail-requires : tie.Need-tail-requires invariant-loop decreases-loop
 tail-requires c κs = search rules
 
 u16-at-requires : tie.Need-u16-at-requires invariant-loop decreases-loop
-u16-at-requires c κs = number-left _ _ c.before.before.before.before.before.requires _ c.before.loop-test.true c.tail.ensures
+u16-at-requires c κs = number_left _ _ c.before.before.before.before.before.requires _ c.before.loop-test.true c.tail.ensures
 
 add-k : tie.Need-overflow-add-k invariant-loop decreases-loop
-add-k c = omega (arith, c.before.before.before.loop-test.true, few-runs _ _ c.before.before.before.before.before.before.before.requires)
+add-k c = omega (arith, c.before.before.before.loop-test.true, few_runs _ _ c.before.before.before.before.before.before.before.requires)
 
 loop-less : tie.Need-loop-smaller invariant-loop decreases-loop
 loop-less c = omega (arith, c.before.before.before.loop-test.true)
@@ -43,7 +43,7 @@ loop-again : tie.Need-loop-preserved invariant-loop decreases-loop
 loop-again c =
     let start = c.before.before.before.before.before.before.before in
     let inside = c.before.before.before.loop-test.true in
-    let place = start_of _ _ start.requires _ (rw (count-of-runs _ _ start.requires) at inside) in (
+    let place = start_of _ _ start.requires _ (rw (count_of_runs _ _ start.requires) at inside) in (
       omega (arith, inside),
       sought_more _ _ _ _ c.before.before.before.before.loop.invariant.1 place (c.before.u16-at.ensures ∙ ap (λ t. u16_at t 0) c.before.before.tail.ensures)
           (⊎_elim (λ w. inl (w.0.taken, w.1)) (λ w. inr (w.0.left, w.1)) c.if1.branch),

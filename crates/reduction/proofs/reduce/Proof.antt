@@ -2,7 +2,7 @@
 use native.Mathlib.Omega.{arith}
 use mathlib.Core.Path.{◌∙◌, ◌≡◌}
 use Rattle.reduction.specs.Reducing.{judged, judged_run, chosen_in, ClearRun}
-use Rattle.job.proofs.ReadJobs.{few-runs, count-of-runs, count-of-certificates, lies_within}
+use Rattle.job.proofs.ReadJobs.{few_runs, count_of_runs, count_of_certificates, lies_within}
 use Rattle.reduction.proofs.ClearJobs.{workable, this_run, ready}
 use Prim.Native.Nat.{ℕ}
 use mathlib.Core.List.{List}
@@ -23,7 +23,7 @@ use Rattle.reduction.proofs.reduce.Tie as tie
 is-judged-run : (sought : Sought) (fig : Figure) {s : List ℕ} {v : Version} {j : Job} {k : ℕ} {r : Run} {done : Reduced} → v ≡ version_of s → ClearRun s j k → r ≡ run_at s (get_or j.starts k 0) → done ≡ judged sought v fig r (chosen_for (certificate_of s) j.certificates r.header) → done ≡ judged_run sought fig s k
 unfolding judged_run chosen_in
 is-judged-run sought fig {s} {v} {j} ev ok e ed =
-    ed ∙ rw (ev, this_run ok e, count-of-certificates s j ok.job)
+    ed ∙ rw (ev, this_run ok e, count_of_certificates s j ok.job)
 
 version-requires : tie.Need-version-requires
 version-requires c κs =
@@ -33,12 +33,12 @@ version-requires c κs =
 mul-run : tie.Need-overflow-mul-run
 mul-run c =
     let ok = c.before.before.before.requires.0 in
-    omega (arith, few-runs _ _ ok.job, count-of-runs _ _ ok.job, ok.inside)
+    omega (arith, few_runs _ _ ok.job, count_of_runs _ _ ok.job, ok.inside)
 
 array-read-run : tie.Need-array-read-run
 array-read-run c =
     let ok = c.before.before.before.requires.0 in
-    omega (arith, few-runs _ _ ok.job, count-of-runs _ _ ok.job, ok.inside)
+    omega (arith, few_runs _ _ ok.job, count_of_runs _ _ ok.job, ok.inside)
 
 run-requires : tie.Need-run-requires
 run-requires c κs =

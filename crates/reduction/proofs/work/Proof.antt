@@ -9,8 +9,8 @@ use Rattle.steps.specs.declared.Figure.{Figure}
 use Rattle.findings.specs.declared.Sought.{Sought}
 use Rattle.findings.specs.Listing.{most_findings, listed, Worked}
 use Rattle.findings.specs.Seeking.{Seekable, walked}
-use Rattle.findings.proofs.Seeking.{listed-few}
-use Rattle.reduction.proofs.Working.{lines-workable, lines_worked, is_judged}
+use Rattle.findings.proofs.Seeking.{listed_few}
+use Rattle.reduction.proofs.Working.{lines_workable, lines_worked, is_judged}
 use Rattle.reduction.proofs.work.Statement.{statement}
 use Rattle.reduction.proofs.work.Tie as tie
 
@@ -29,7 +29,7 @@ diameters-of-requires : tie.Need-diameters-of-requires
 diameters-of-requires c κs = search rules
 
 lines-requires : tie.Need-lines-requires
-lines-requires c κs = lines-workable _ _ _ _ c.before.before.before.before.before.requires.0.1.reducible c.before.before.before.choose-all.ensures c.before.before.factor-of.ensures c.before.coefficient-of.ensures c.diameters-of.ensures
+lines-requires c κs = lines_workable _ _ _ _ c.before.before.before.before.before.requires.0.1.reducible c.before.before.before.choose-all.ensures c.before.before.factor-of.ensures c.before.coefficient-of.ensures c.diameters-of.ensures
 
 find-requires : tie.Need-find-requires
 find-requires c κs =
@@ -38,7 +38,7 @@ find-requires c κs =
 
 found_few : (sought : Sought) (v : Version) (fig : Figure) {r : Run} (ch : Chosen) {l : Lines} → Worked r l → Seekable sought → (walked sought v fig r ch l).findings.count ≤ most_findings
 unfolding listed
-found_few sought v fig ch w ok = listed-few v fig _ ch _ w sought ok
+found_few sought v fig ch w ok = listed_few v fig _ ch _ w sought ok
 
 accepted-requires : tie.Need-accepted-requires
 accepted-requires c κs =

@@ -3,7 +3,7 @@ use borrow.Author.Rules.{rules}
 use native.Mathlib.Omega.{arith}
 use mathlib.Core.Path.{◌∙◌, sym}
 use Rattle.reduction.specs.Reducing.{ClearRun}
-use Rattle.job.proofs.ReadJobs.{read_clear, count-of-runs, place_fits}
+use Rattle.job.proofs.ReadJobs.{read_clear, count_of_runs, place_fits}
 use Rattle.reduction.proofs.ClearJobs.{found_few}
 use Rattle.findings.proofs.Seeking.{all_seekable}
 use Rattle.reduction.proofs.Naming.{found_inside}
@@ -44,7 +44,7 @@ found : (c : tie.After-known-told2) → ClearRun c.before.before.before.before.b
 found c =
     let job = read_clear _ c.before.before.before.before.before.before.read-records.ensures c.before.before.before.before.enum_told.given.1 in
     let named = sym c.before.before.before.find-run.ensures ∙ c.before.which.given.1 in
-    record { job = job; inside = rw (count-of-runs _ _ job) at (found_inside _ _ _ named) }
+    record { job = job; inside = rw (count_of_runs _ _ job) at (found_inside _ _ _ named) }
 
 reduce-requires : tie.Need-reduce-requires
 reduce-requires c κs = (found c, all_seekable)

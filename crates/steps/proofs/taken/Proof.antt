@@ -7,7 +7,7 @@ use borrow.Author.Rules.{rules}
 use Rattle.readings.specs.Ranges.{greatest_step_count}
 use Rattle.diameters.specs.Diameters.{diameter}
 use Rattle.steps.specs.Steps.{reaches, last_reached}
-use Rattle.steps.proofs.Taking.{taken_none, taken-reached, taken-passed}
+use Rattle.steps.proofs.Taking.{taken_none, taken_reached, taken_passed}
 use Rattle.steps.proofs.taken.Statement.{statement}
 use Rattle.steps.proofs.taken.Tie as tie
 
@@ -44,8 +44,8 @@ loop-again c =
     let told = c.before.reaches.ensures in (
       search rules,
       ⊎_elim
-          (λ w. w.1 ∙ taken-reached _ _ _ (sym told ∙ w.0.taken))
-          (λ w. w.1 ∙ taken-passed _ _ _ tried.1 (sym told ∙ w.0.left))
+          (λ w. w.1 ∙ taken_reached _ _ _ (sym told ∙ w.0.taken))
+          (λ w. w.1 ∙ taken_passed _ _ _ tried.1 (sym told ∙ w.0.left))
           c.if1.branch,
     )
 

@@ -2,8 +2,8 @@
 use Prim.Native.Nat.{◌-◌, ◌≤◌, ◌<◌}
 use native.Mathlib.Omega.{arith}
 use Rattle.arrays.proofs.Filled.{filled_none}
-use Rattle.distances.proofs.RectangleLaws.{RectangleOk, rectangle_ok, CellsOk, cells-ok}
-use Rattle.traverse.proofs.RowLaws.{Rows, Row, rows_none, row-none, row_room, row_more, row-all, rows_all}
+use Rattle.distances.proofs.RectangleLaws.{RectangleOk, rectangle_ok, CellsOk, cells_ok}
+use Rattle.traverse.proofs.RowLaws.{Rows, Row, rows_none, row_none, row_room, row_more, row_all, rows_all}
 use Rattle.traverse.proofs.rectangle.Statement.{statement}
 use Rattle.traverse.proofs.rectangle.Tie as tie
 
@@ -24,7 +24,7 @@ sides : (c : tie.Start invariant-loop2 decreases-loop2 invariant-loop decreases-
 sides c = rectangle_ok _ _ _ c.requires
 
 cells : (c : tie.After-second-cells invariant-loop2 decreases-loop2 invariant-loop decreases-loop) → CellsOk c.before.before.args.points c.before.first-cells.result c.second-cells.result
-cells c = rw (c.second-cells.ensures, c.before.first-cells.ensures) (cells-ok _ _ _ (sides c.before.before).points)
+cells c = rw (c.second-cells.ensures, c.before.first-cells.ensures) (cells_ok _ _ _ (sides c.before.before).points)
 
 -- in a turn of the inner loop there is room for both distances
 room : (c : tie.In-loop2 invariant-loop2 decreases-loop2 invariant-loop decreases-loop) → c.before.loop2.at ≤ 96
@@ -46,7 +46,7 @@ loop-holds : tie.Need-loop-init invariant-loop2 decreases-loop2 invariant-loop d
 loop-holds c = rows_none (filled_none _ _)
 
 loop2-holds : tie.Need-loop2-init invariant-loop2 decreases-loop2 invariant-loop decreases-loop
-loop2-holds c = row-none c.before.loop.invariant
+loop2-holds c = row_none c.before.loop.invariant
 
 add-center : tie.Need-overflow-add-center invariant-loop2 decreases-loop2 invariant-loop decreases-loop
 add-center c = omega (arith, (cells c.before.before.before.before).columns_few)
@@ -111,7 +111,7 @@ loop-less : tie.Need-loop-smaller invariant-loop2 decreases-loop2 invariant-loop
 loop-less c = omega arith
 
 loop-again : tie.Need-loop-preserved invariant-loop2 decreases-loop2 invariant-loop decreases-loop
-loop-again c = row-all c.before.loop2.invariant c.before.before.loop-test.true c.loop2-test.false
+loop-again c = row_all c.before.loop2.invariant c.before.before.loop-test.true c.loop2-test.false
 
 returns : tie.Need-returns invariant-loop2 decreases-loop2 invariant-loop decreases-loop
 returns c =

@@ -15,7 +15,7 @@ use Rattle.lines.specs.declared.Line.TheVariants.{Present, Absent}
 use Rattle.output.specs.Bytes.{le, signed_bits}
 use Rattle.output.specs.Splice.{spliced}
 use Rattle.output.proofs.Bytes.{length_le}
-use Rattle.output.proofs.Splice.{spliced-more}
+use Rattle.output.proofs.Splice.{spliced_more}
 use Rattle.writing.specs.Bytes.{line_size, entry_bytes}
 use Rattle.writing.proofs.put_entry.Statement.{statement}
 use Rattle.writing.proofs.put_entry.Tie as tie
@@ -23,7 +23,7 @@ use Rattle.writing.proofs.put_entry.Tie as tie
 two : (old : List ℕ) (at flag n : ℕ) {mid out : List ℕ} → at + line_size ≤ length old → mid ≡ spliced old at (flag ∷ []) → out ≡ spliced mid (at + 1) (le 8 n) → out ≡ spliced old at (flag ∷ le 8 n)
 two old at flag n room em eo =
     let long : length (le 8 n) ≡ 8 = length_le 8 n in
-    eo ∙ rw em (spliced-more old at (flag ∷ []) (le 8 n) (omega arith))
+    eo ∙ rw em (spliced_more old at (flag ∷ []) (le 8 n) (omega arith))
 
 present : (entry : Entry) {z : ℤ} (old : List ℕ) (at : ℕ) {mid out : List ℕ} {n : ℕ} → entry.line ≡ Present z → mag z < 2 ^ 63 → at + line_size ≤ length old → mid ≡ spliced old at (1 ∷ []) → n ≡ signed_bits (to_z w64 (of_z w64 z)) → out ≡ spliced mid (at + 1) (le 8 n) → out ≡ spliced old at (entry_bytes entry)
 unfolding entry_bytes

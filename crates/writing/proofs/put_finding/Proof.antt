@@ -9,7 +9,7 @@ use Rattle.output.specs.Splice.{spliced}
 use Rattle.findings.specs.declared.Finding.{Finding}
 use Rattle.output.specs.Bytes.{le}
 use Rattle.output.proofs.Bytes.{length_le}
-use Rattle.output.proofs.Splice.{spliced-more}
+use Rattle.output.proofs.Splice.{spliced_more}
 use Rattle.writing.specs.Bytes.{finding_size, finding_bytes}
 use Rattle.writing.proofs.put_finding.Statement.{statement}
 use Rattle.writing.proofs.put_finding.Tie as tie
@@ -18,8 +18,8 @@ three : (f : Finding) (old : List ℕ) (at : ℕ) {a b out : List ℕ} → at + 
 unfolding finding_bytes
 three f old at {a} {b} {out} room ea eb eo =
     let long : length (le 2 f.place) ≡ 2 = length_le 2 f.place in
-    let front : b ≡ spliced old at (f.rule ∷ f.class ∷ []) = eb ∙ rw ea (spliced-more old at (f.rule ∷ []) (f.class ∷ []) (omega arith)) in
-    eo ∙ rw front (spliced-more old at (f.rule ∷ f.class ∷ []) (le 2 f.place) (omega arith))
+    let front : b ≡ spliced old at (f.rule ∷ f.class ∷ []) = eb ∙ rw ea (spliced_more old at (f.rule ∷ []) (f.class ∷ []) (omega arith)) in
+    eo ∙ rw front (spliced_more old at (f.rule ∷ f.class ∷ []) (le 2 f.place) (omega arith))
 
 put-byte-requires : tie.Need-put-byte-requires
 put-byte-requires c κs = search rules

@@ -2,7 +2,7 @@
 use Prim.Native.Nat.{◌-◌, ◌≤◌}
 use native.Mathlib.Omega.{arith}
 use lib.ListN.{length, get_or}
-use Rattle.output.proofs.Records.{Put, put_none, put-length, put-more, put_all}
+use Rattle.output.proofs.Records.{Put, put_none, put_length, put_more, put_all}
 use Rattle.lines.specs.Sheet.{no_entry, line_count}
 use Rattle.writing.specs.Bytes.{line_size, sheet_size, entry_bytes, sheet_bytes}
 use Rattle.writing.proofs.Sizes.{entry_length}
@@ -31,7 +31,7 @@ put-entry-requires : tie.Need-put-entry-requires invariant-loop decreases-loop
 put-entry-requires c κs =
     let f = c.before.before.before.loop.invariant in
     let inside = c.before.before.loop-test.true in
-    omega (arith, inside, f.1, put-length f.2 (omega (arith, inside, f.1)))
+    omega (arith, inside, f.1, put_length f.2 (omega (arith, inside, f.1)))
 
 add-i : tie.Need-overflow-add-i invariant-loop decreases-loop
 add-i c = omega (arith, c.before.before.before.before.before.loop-test.true)
@@ -43,12 +43,12 @@ loop-again : tie.Need-loop-preserved invariant-loop decreases-loop
 loop-again c =
     let f = c.before.before.before.before.before.before.loop.invariant in
     let inside = c.before.before.before.before.before.loop-test.true in
-    (omega (arith, inside), f.1, put-more f.2 (omega (arith, inside, f.1)) c.before.before.put-entry.ensures)
+    (omega (arith, inside), f.1, put_more f.2 (omega (arith, inside, f.1)) c.before.before.put-entry.ensures)
 
 same_length : tie.Need-same-length invariant-loop decreases-loop
 same_length c =
     let f = c.before.loop.invariant in
-    put-length f.2 (omega (arith, f.0, f.1))
+    put_length f.2 (omega (arith, f.0, f.1))
 
 returns : tie.Need-returns invariant-loop decreases-loop
 unfolding sheet_bytes

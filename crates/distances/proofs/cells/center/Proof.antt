@@ -2,7 +2,7 @@
 use borrow.Author.Rules.{rules}
 use native.Mathlib.Omega.{arith}
 use Rattle.distances.specs.Rectangle.{center}
-use Rattle.distances.proofs.RectangleLaws.{center_product, center-high}
+use Rattle.distances.proofs.RectangleLaws.{center_product, center_high}
 use Rattle.distances.proofs.cells.center.Statement.{statement}
 use Rattle.distances.proofs.cells.center.Tie as tie
 
@@ -31,7 +31,7 @@ returns c =
     let a = c.before.args in
     record {
       is = c.round-div.ensures;
-      high = rw c.round-div.ensures (omega (arith, center-high a.side a.cells p.0 p.2 p.3 a.i p.4 p.5, p.1));
+      high = rw c.round-div.ensures (omega (arith, center_high a.side a.cells p.0 p.2 p.3 a.i p.4 p.5, p.1));
     }
 
 pub center-spec : {M : Type 1} → statement M

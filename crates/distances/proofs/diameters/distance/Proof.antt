@@ -8,7 +8,7 @@ use Rattle.arith.specs.Rounding.{round_div}
 use Rattle.distances.specs.Promise.{AtMost}
 use Rattle.distances.specs.Positions.{position}
 use Rattle.distances.specs.Round.{margin, kept, measured, distance}
-use Rattle.distances.proofs.RoundLaws.{RoundOk, round_ok, margin_half, kept-most}
+use Rattle.distances.proofs.RoundLaws.{RoundOk, round_ok, margin_half, kept_most}
 use Rattle.distances.proofs.diameters.distance.Statement.{statement}
 use Rattle.distances.proofs.diameters.distance.Tie as tie
 
@@ -18,7 +18,7 @@ is-distance {n} {d} {z} i {r = r} ok ep ex em er =
     let e : r ≡ kept (margin d z) (100 * d) (round_div (position n i * d) 10) = rw (er, em, ex, ep) in
     record {
       is = e;
-      high = rw e (omega (arith, kept-most (margin d z) (100 * d) (margin_half ok) (round_div (position n i * d) 10), ok.diameter_most));
+      high = rw e (omega (arith, kept_most (margin d z) (100 * d) (margin_half ok) (round_div (position n i * d) 10), ok.diameter_most));
     }
 
 position-requires : tie.Need-position-requires

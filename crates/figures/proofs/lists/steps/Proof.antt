@@ -5,7 +5,7 @@ use native.Mathlib.Nat.{le_antisymm}
 use native.Mathlib.Omega.{arith}
 use borrow.Author.Rules.{rules}
 use Rattle.arrays.specs.Arrays.{padded}
-use Rattle.arrays.proofs.Arrays.{pad-none, pad-more}
+use Rattle.arrays.proofs.Arrays.{pad_none, pad_more}
 use Rattle.readings.specs.Ranges.{greatest_step_count}
 use Rattle.steps.specs.Steps.{no_step}
 use Rattle.figures.specs.Figures.{step_at, steps_at}
@@ -25,7 +25,7 @@ cast-count : tie.Need-overflow-cast-count invariant-loop decreases-loop
 cast-count c = search rules
 
 loop-holds : tie.Need-loop-init invariant-loop decreases-loop
-loop-holds c = (search rules, pad-none greatest_step_count no_step _)
+loop-holds c = (search rules, pad_none greatest_step_count no_step _)
 
 step-requires : tie.Need-step-requires invariant-loop decreases-loop
 step-requires c κs = search rules
@@ -47,7 +47,7 @@ loop-less c = search rules
 loop-again : tie.Need-loop-preserved invariant-loop decreases-loop
 loop-again c =
     let passed = c.before.before.loop.invariant in
-    (search rules, pad-more greatest_step_count no_step _ _ passed.1 c.step.ensures)
+    (search rules, pad_more greatest_step_count no_step _ _ passed.1 c.step.ensures)
 
 returns : tie.Need-returns invariant-loop decreases-loop
 unfolding steps_at

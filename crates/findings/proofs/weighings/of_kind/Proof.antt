@@ -4,7 +4,7 @@ use mathlib.Core.Path.{◌≡◌, ◌∙◌}
 use mathlib.Core.Logic.{⊎_elim}
 use native.Mathlib.Omega.{arith}
 use Rattle.findings.specs.Listing.{of_kind}
-use Rattle.findings.proofs.Counted.{kind-none, kind-counted, kind-passed}
+use Rattle.findings.proofs.Counted.{kind_none, kind_counted, kind_passed}
 use Rattle.findings.proofs.weighings.of_kind.Statement.{statement}
 use Rattle.findings.proofs.weighings.of_kind.Tie as tie
 
@@ -16,7 +16,7 @@ abbrev decreases-loop : tie.decreases-loop
 decreases-loop kind n weighings count found₀ i₀ found i = count - i
 
 loop-holds : tie.Need-loop-init invariant-loop decreases-loop
-loop-holds c = (omega arith, omega arith, kind-none _ _)
+loop-holds c = (omega arith, omega arith, kind_none _ _)
 
 mul-w : tie.Need-overflow-mul-w invariant-loop decreases-loop
 mul-w c = omega arith
@@ -37,8 +37,8 @@ loop-again : tie.Need-loop-preserved invariant-loop decreases-loop
 loop-again c =
     let inv = c.before.before.before.before.loop.invariant in
     ⊎_elim
-    (λ w. (omega arith, omega (arith, w.1), w.1 ∙ kind-counted _ _ _ inv.2 w.0.taken))
-    (λ w. (omega arith, omega (arith, w.1), w.1 ∙ kind-passed _ _ _ inv.2 w.0.left))
+    (λ w. (omega arith, omega (arith, w.1), w.1 ∙ kind_counted _ _ _ inv.2 w.0.taken))
+    (λ w. (omega arith, omega (arith, w.1), w.1 ∙ kind_passed _ _ _ inv.2 w.0.left))
     c.if1.branch
 
 returns : tie.Need-returns invariant-loop decreases-loop

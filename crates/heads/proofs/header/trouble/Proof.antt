@@ -9,7 +9,7 @@ use Rattle.fields.specs.declared.trouble.Trouble.{Trouble}
 use Rattle.fields.specs.declared.trouble.Trouble.TheVariants.{Clear}
 use Rattle.fields.specs.Numbers.{byte_at}
 use Rattle.fields.specs.Trouble.{checks, record_trouble}
-use Rattle.fields.proofs.RecordTrouble.{short-at, whole-at, reach-at}
+use Rattle.fields.proofs.RecordTrouble.{short_at, whole_at, reach_at}
 use Rattle.fields.proofs.Tails.{enough}
 use Rattle.readings.specs.declared.headers.Version.{Version}
 use Rattle.readings.specs.declared.headers.Version.TheVariants.{One}
@@ -34,7 +34,7 @@ size-requires c κs = search rules
 returns : tie.Need-returns
 returns c =
     let start = c.before.before.before.before in
-    short-at _ _ (run_header_size start.args.v) _ c.before.before.tail.ensures (rw c.before.size.ensures at c.if1.true)
+    short_at _ _ (run_header_size start.args.v) _ c.before.before.tail.ensures (rw c.before.size.ensures at c.if1.true)
     ∙ ap (by start.args.s.now start.args.at) start.requires
 
 -- no fewer bytes left than the record has
@@ -70,12 +70,12 @@ from-requires c κs =
     let start = c.before.before.before.before.before.before.before.before in
     let rest = drop start.args.at start.args.s.now in
     let long : length start.args.s.now < 2 ^ 63 = omega (arith, start.well-formed.0.1) in
-    reach-at _ _ (run_header_size start.args.v) _ c.before.before.before.before.before.before.tail.ensures (whole c.before.before.before.before) long (omega arith) (header_within start.args.v (header start.args.v rest) (spare_byte start.args.v rest)) (own c)
+    reach_at _ _ (run_header_size start.args.v) _ c.before.before.before.before.before.before.tail.ensures (whole c.before.before.before.before) long (omega arith) (header_within start.args.v (header start.args.v rest) (spare_byte start.args.v rest)) (own c)
 
 returns-2 : tie.Need-returns-2
 returns-2 c =
     let start = c.before.before.before.before.before.before.before.before.before in
-    whole-at _ _ (run_header_size start.args.v) _ c.before.before.before.before.before.before.before.tail.ensures (whole c.before.before.before.before.before) (own c.before) c.from.ensures
+    whole_at _ _ (run_header_size start.args.v) _ c.before.before.before.before.before.before.before.tail.ensures (whole c.before.before.before.before.before) (own c.before) c.from.ensures
     ∙ ap (by start.args.s.now start.args.at) start.requires
 
 pub trouble-spec : {M : Type 1} → statement M

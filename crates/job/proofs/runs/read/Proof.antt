@@ -14,7 +14,7 @@ use Rattle.fields.specs.Numbers.{u16_at}
 use Rattle.fields.specs.Trouble.{left_over}
 use Rattle.fields.proofs.FirstTrouble.{first_met, first_passed, none_clear, goes_on, stops, ends}
 use Rattle.arrays.specs.Arrays.{padded}
-use Rattle.arrays.proofs.Arrays.{pad-none, pad-more}
+use Rattle.arrays.proofs.Arrays.{pad_none, pad_more}
 use Rattle.fields.proofs.Tails.{enough}
 use Rattle.job.specs.Places.{next_start, run_start}
 use Rattle.job.specs.Troubles.{run_trouble, number_before, runs_trouble, end_trouble}
@@ -32,7 +32,7 @@ decreases-loop s v first n starts₀ at₀ lower₀ k₀ starts at lower k = n -
 loop-holds : tie.Need-loop-init invariant-loop decreases-loop
 loop-holds c =
     let first = c.before.requires in
-    (search rules, first.3, first.2, number_none _, none_clear _, pad-none greatest_run_count 0 _)
+    (search rules, first.3, first.2, number_none _, none_clear _, pad_none greatest_run_count 0 _)
 
 run-trouble-requires : tie.Need-run-trouble-requires invariant-loop decreases-loop
 run-trouble-requires c κs = (c.before.before.before.requires.0, c.before.loop.invariant.1)
@@ -97,7 +97,7 @@ loop-again c =
       c.next_start.ensures ∙ ap (next_start _) passed.2 ∙ start_more _ _,
       c.before.u16-at.ensures ∙ ap (λ (t : List ℕ). u16_at t 0) (read.tail.ensures ∙ ap (λ (p : ℕ). drop p s) passed.2) ∙ number_more _ _,
       goes_on _ _ passed.4 own told,
-      pad-more greatest_run_count 0 _ _ passed.5 passed.2,
+      pad_more greatest_run_count 0 _ _ passed.5 passed.2,
     )
 
 stopped-requires-2 : tie.Need-stopped-requires-2 invariant-loop decreases-loop

@@ -3,9 +3,9 @@ use borrow.Author.Rules.{rules}
 use native.Mathlib.Omega.{arith}
 use mathlib.Core.Path.{◌∙◌, ap}
 use Rattle.readings.specs.Ranges.{static_pressure}
-use Rattle.metering.proofs.RunInRange.{pb-range}
+use Rattle.metering.proofs.RunInRange.{pb_range}
 use Rattle.stack.proofs.Pressure.{pressure_bits}
-use Rattle.lines.proofs.RunInRange.{traverse-ok, gas-range}
+use Rattle.lines.proofs.RunInRange.{traverse_ok, gas_range}
 use Rattle.lines.proofs.Together.{is_lines}
 use Rattle.lines.proofs.sheets.lines.Statement.{statement}
 use Rattle.lines.proofs.sheets.lines.Tie as tie
@@ -14,26 +14,26 @@ metering-requires : tie.Need-metering-requires
 metering-requires c κs = search rules
 
 cast-stack : tie.Need-overflow-cast-stack
-cast-stack c = omega (arith, gas-range _ c.before.before.before.before.requires.run)
+cast-stack c = omega (arith, gas_range _ c.before.before.before.before.requires.run)
 
 cast-stack-2 : tie.Need-overflow-cast-stack-2
-cast-stack-2 c = omega (arith, gas-range _ c.before.before.before.before.before.requires.run)
+cast-stack-2 c = omega (arith, gas_range _ c.before.before.before.before.before.requires.run)
 
 cast-stack-3 : tie.Need-overflow-cast-stack-3
-cast-stack-3 c = omega (arith, (pb-range _ c.before.before.before.before.before.before.requires.run).1)
+cast-stack-3 c = omega (arith, (pb_range _ c.before.before.before.before.before.before.requires.run).1)
 
 cast-stack-4 : tie.Need-overflow-cast-stack-4
-cast-stack-4 c = omega (arith, (traverse-ok _ c.before.before.before.before.before.before.before.requires.run).few)
+cast-stack-4 c = omega (arith, (traverse_ok _ c.before.before.before.before.before.before.before.requires.run).few)
 
 stack-requires : tie.Need-stack-requires
 stack-requires c κs =
     let start = c.before.before.before.before.before.before.before.before in
     let ok = start.requires.run in
-    let pb = pb-range _ ok in (
-      (gas-range _ ok, pb.0, pb.1),
+    let pb = pb_range _ ok in (
+      (gas_range _ ok, pb.0, pb.1),
       (
         c.before.before.before.before.before.metering.ensures.1.moisture,
-        (ap static_pressure (pressure_bits _ ok.header.pg) ∙ ok.header.pg, (traverse-ok _ ok, start.requires.coefficient)),
+        (ap static_pressure (pressure_bits _ ok.header.pg) ∙ ok.header.pg, (traverse_ok _ ok, start.requires.coefficient)),
       ),
     )
 

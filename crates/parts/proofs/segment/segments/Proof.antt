@@ -8,7 +8,7 @@ use Rattle.readings.specs.Ranges.{greatest_segment_count}
 use Rattle.records.specs.Records.{no_segment}
 use Rattle.arrays.specs.Arrays.{padded}
 use Rattle.parts.specs.Values.{segment_size, segment, segment_at}
-use Rattle.arrays.proofs.Arrays.{pad-none, pad-more}
+use Rattle.arrays.proofs.Arrays.{pad_none, pad_more}
 use Rattle.fields.proofs.Tails.{enough}
 use Rattle.parts.proofs.segment.segments.Statement.{statement}
 use Rattle.parts.proofs.segment.segments.Tie as tie
@@ -20,7 +20,7 @@ abbrev decreases-loop : tie.decreases-loop
 decreases-loop t n all₀ i₀ all i = n - i
 
 loop-holds : tie.Need-loop-init invariant-loop decreases-loop
-loop-holds c = (search rules, pad-none greatest_segment_count no_segment _)
+loop-holds c = (search rules, pad_none greatest_segment_count no_segment _)
 
 mul-tail : tie.Need-overflow-mul-tail invariant-loop decreases-loop
 mul-tail c = search rules
@@ -46,7 +46,7 @@ loop-less c = search rules
 loop-again : tie.Need-loop-preserved invariant-loop decreases-loop
 loop-again c =
     let turn = c.before.before.before.loop.invariant in
-    (search rules, pad-more greatest_segment_count no_segment _ _ turn.1 (c.segment.ensures ∙ ap segment c.before.tail.ensures))
+    (search rules, pad_more greatest_segment_count no_segment _ _ turn.1 (c.segment.ensures ∙ ap segment c.before.tail.ensures))
 
 returns : tie.Need-returns invariant-loop decreases-loop
 returns c =

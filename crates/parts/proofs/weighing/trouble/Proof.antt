@@ -11,7 +11,7 @@ use Rattle.fields.specs.Numbers.{byte_at}
 use Rattle.fields.specs.Trouble.{checks}
 use Rattle.parts.specs.Values.{weighing_size, weighing}
 use Rattle.parts.specs.Rows.{weighing_rows}
-use Rattle.fields.proofs.RecordTrouble.{short-at, whole-at, reach-at}
+use Rattle.fields.proofs.RecordTrouble.{short_at, whole_at, reach_at}
 use Rattle.parts.proofs.weighing.trouble.Statement.{statement}
 use Rattle.parts.proofs.weighing.trouble.Tie as tie
 
@@ -19,7 +19,7 @@ tail-requires : tie.Need-tail-requires
 tail-requires c κs = search rules
 
 returns : tie.Need-returns
-returns c = short-at _ _ weighing_size _ c.before.tail.ensures c.if1.true
+returns c = short_at _ _ weighing_size _ c.before.tail.ensures c.if1.true
 
 weighing-requires : tie.Need-weighing-requires
 weighing-requires c κs = search rules
@@ -36,14 +36,14 @@ from-requires c κs =
     let rest = whole.before.tail.ensures in
     let start = whole.before.before.before in
     let long : length start.args.s.now < 2 ^ 63 = omega (arith, start.well-formed.0.1) in
-    reach-at _ _ weighing_size _ rest whole.if1.false long (lit≤ tt) refl
+    reach_at _ _ weighing_size _ rest whole.if1.false long (lit≤ tt) refl
     (c.rows.ensures ∙ (ap₂ (λ w b. checks Clear (weighing_rows w b)) (c.before.before.weighing.ensures ∙ ap weighing rest) (c.before.byte.ensures ∙ ap (λ (t : List ℕ). byte_at t 1) rest)))
 
 returns-2 : tie.Need-returns-2
 returns-2 c =
     let whole = c.before.before.before.before in
     let rest = whole.before.tail.ensures in
-    whole-at _ _ weighing_size _ rest whole.if1.false
+    whole_at _ _ weighing_size _ rest whole.if1.false
     (c.before.rows.ensures ∙ (ap₂ (λ w b. checks Clear (weighing_rows w b)) (c.before.before.before.weighing.ensures ∙ ap weighing rest) (c.before.before.byte.ensures ∙ ap (λ (t : List ℕ). byte_at t 1) rest)))
     c.from.ensures
 

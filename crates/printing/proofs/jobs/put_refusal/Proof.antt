@@ -4,7 +4,7 @@ use mathlib.Core.List.{◌++◌}
 use Rattle.characters.specs.Numbers.{decimal}
 use Rattle.characters.specs.Words.{spelled}
 use Rattle.characters.specs.Writing.{Room}
-use Rattle.characters.proofs.Texts.{room_front, room-first, room-second, room-third, room-fourth, room-fifth, wrote-five}
+use Rattle.characters.proofs.Texts.{room_front, room_first, room_second, room_third, room_fourth, room_fifth, wrote_five}
 use Rattle.text.specs.Sheets.{space, newline}
 use Rattle.printing.specs.Jobs.{refused_word, refusal_text}
 use Rattle.printing.proofs.jobs.put_refusal.Statement.{statement}
@@ -25,36 +25,36 @@ put-word-requires : tie.Need-put-word-requires
 unfolding spelled
 put-word-requires c κs =
     let start = c.before.before.before in
-    room-first refused_word (decimal start.args.number) space (decimal start.args.place) (front start)
+    room_first refused_word (decimal start.args.number) space (decimal start.args.place) (front start)
 
 put-decimal-requires : tie.Need-put-decimal-requires
 unfolding spelled
-put-decimal-requires c κs = room-second _ _ _ _ (front c.before.before.before.before.before.before.before) c.before.before.before.put_word.ensures
+put-decimal-requires c κs = room_second _ _ _ _ (front c.before.before.before.before.before.before.before) c.before.before.before.put_word.ensures
 
 slice-aggregate-put-word-2 : tie.Need-slice-aggregate-put-word-2
 slice-aggregate-put-word-2 c = search rules
 
 put-word-requires-2 : tie.Need-put-word-requires-2
 unfolding spelled
-put-word-requires-2 c κs = room-third _ _ _ _ (front c.before.before.before.before.before.before.before.before.before.before.before.before) c.before.before.before.before.before.before.before.before.put_word.ensures c.before.before.before.before.put-decimal.ensures
+put-word-requires-2 c κs = room_third _ _ _ _ (front c.before.before.before.before.before.before.before.before.before.before.before.before) c.before.before.before.before.before.before.before.before.put_word.ensures c.before.before.before.before.put-decimal.ensures
 
 put-decimal-requires-2 : tie.Need-put-decimal-requires-2
 unfolding spelled
-put-decimal-requires-2 c κs = room-fourth _ _ _ _ (front c.before.before.before.before.before.before.before.before.before.before.before.before.before.before.before.before) c.before.before.before.before.before.before.before.before.before.before.before.before.put_word.ensures c.before.before.before.before.before.before.before.before.put-decimal.ensures c.before.before.before.put-word2.ensures
+put-decimal-requires-2 c κs = room_fourth _ _ _ _ (front c.before.before.before.before.before.before.before.before.before.before.before.before.before.before.before.before) c.before.before.before.before.before.before.before.before.before.before.before.before.put_word.ensures c.before.before.before.before.before.before.before.before.put-decimal.ensures c.before.before.before.put-word2.ensures
 
 slice-aggregate-put-word-3 : tie.Need-slice-aggregate-put-word-3
 slice-aggregate-put-word-3 c = search rules
 
 put-word-requires-3 : tie.Need-put-word-requires-3
 unfolding spelled
-put-word-requires-3 c κs = room-fifth _ _ _ _ _ (room c.before.before.before.before.before.before.before.before.before.before.before.before.before.before.before.before.before.before.before.before.before) c.before.before.before.before.before.before.before.before.before.before.before.before.before.before.before.before.before.put_word.ensures c.before.before.before.before.before.before.before.before.before.before.before.before.before.put-decimal.ensures c.before.before.before.before.before.before.before.before.put-word2.ensures c.before.before.before.before.put-decimal2.ensures
+put-word-requires-3 c κs = room_fifth _ _ _ _ _ (room c.before.before.before.before.before.before.before.before.before.before.before.before.before.before.before.before.before.before.before.before.before) c.before.before.before.before.before.before.before.before.before.before.before.before.before.before.before.before.before.put_word.ensures c.before.before.before.before.before.before.before.before.before.before.before.before.before.put-decimal.ensures c.before.before.before.before.before.before.before.before.put-word2.ensures c.before.before.before.before.put-decimal2.ensures
 
 same_length : tie.Need-same-length
 same_length c = search rules
 
 returns : tie.Need-returns
 unfolding refusal_text spelled
-returns c = wrote-five _ _ _ _ _ (room c.before.before.before.before.before.before.before.before.before.before.before.before.before.before.before.before.before.before.before.before.before.before.before.before) c.before.before.before.before.before.before.before.before.before.before.before.before.before.before.before.before.before.before.before.before.put_word.ensures c.before.before.before.before.before.before.before.before.before.before.before.before.before.before.before.before.put-decimal.ensures c.before.before.before.before.before.before.before.before.before.before.before.put-word2.ensures c.before.before.before.before.before.before.before.put-decimal2.ensures c.before.before.put-word3.ensures
+returns c = wrote_five _ _ _ _ _ (room c.before.before.before.before.before.before.before.before.before.before.before.before.before.before.before.before.before.before.before.before.before.before.before.before) c.before.before.before.before.before.before.before.before.before.before.before.before.before.before.before.before.before.before.before.before.put_word.ensures c.before.before.before.before.before.before.before.before.before.before.before.before.before.before.before.before.put-decimal.ensures c.before.before.before.before.before.before.before.before.before.before.before.put-word2.ensures c.before.before.before.before.before.before.before.put-decimal2.ensures c.before.before.put-word3.ensures
 
 pub put-refusal-spec : {M : Type 1} → statement M
 put-refusal-spec =

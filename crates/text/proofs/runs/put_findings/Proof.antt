@@ -5,7 +5,7 @@ use lib.ListN.{get_or}
 use Rattle.findings.specs.Listing.{no_finding}
 use Rattle.output.specs.Bytes.{joined}
 use Rattle.characters.specs.Writing.{Room, Wrote}
-use Rattle.characters.proofs.Texts.{joined_none, joined-room, joined-more, joined_all}
+use Rattle.characters.proofs.Texts.{joined_none, joined_room, joined_more, joined_all}
 use Rattle.text.specs.Runs.{finding_text, findings_text}
 use Rattle.text.proofs.runs.put_findings.Statement.{statement}
 use Rattle.text.proofs.runs.put_findings.Tie as tie
@@ -31,7 +31,7 @@ array-copy-out-put-finding : tie.Need-array-copy-out-put-finding invariant-loop 
 array-copy-out-put-finding c = omega (arith, c.before.loop-test.true, c.before.before.before.before.before.requires.0)
 
 put-finding-requires : tie.Need-put-finding-requires invariant-loop decreases-loop
-put-finding-requires c κs = joined-room _ c.before.before.before.loop.invariant.1 (room c.before.before.before.before.before.before) c.before.before.loop-test.true
+put-finding-requires c κs = joined_room _ c.before.before.before.loop.invariant.1 (room c.before.before.before.before.before.before) c.before.before.loop-test.true
 
 add-i : tie.Need-overflow-add-i invariant-loop decreases-loop
 add-i c = omega (arith, c.before.before.before.before.before.loop-test.true, c.before.before.before.before.before.before.before.before.before.requires.0)
@@ -42,7 +42,7 @@ loop-less c = omega (arith, c.before.before.before.before.before.loop-test.true)
 loop-again : tie.Need-loop-preserved invariant-loop decreases-loop
 loop-again c =
     let inside = c.before.before.before.before.before.loop-test.true in
-    (omega (arith, inside), joined-more _ c.before.before.before.before.before.before.loop.invariant.1 (room c.before.before.before.before.before.before.before.before.before) inside c.before.before.put-finding.ensures)
+    (omega (arith, inside), joined_more _ c.before.before.before.before.before.before.loop.invariant.1 (room c.before.before.before.before.before.before.before.before.before) inside c.before.before.put-finding.ensures)
 
 same_length : tie.Need-same-length invariant-loop decreases-loop
 same_length c = c.before.loop.invariant.1.kept

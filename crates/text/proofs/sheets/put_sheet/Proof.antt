@@ -4,7 +4,7 @@ use native.Mathlib.Omega.{arith}
 use Rattle.lines.specs.Sheet.{line_count}
 use Rattle.output.specs.Bytes.{joined}
 use Rattle.characters.specs.Writing.{Room, Wrote}
-use Rattle.characters.proofs.Texts.{joined_none, joined-room, joined-more, joined_all}
+use Rattle.characters.proofs.Texts.{joined_none, joined_room, joined_more, joined_all}
 use Rattle.text.specs.Sheets.{line_at, sheet_text}
 use Rattle.text.proofs.sheets.put_sheet.Statement.{statement}
 use Rattle.text.proofs.sheets.put_sheet.Tie as tie
@@ -33,7 +33,7 @@ array-copy-out-put-line : tie.Need-array-copy-out-put-line invariant-loop decrea
 array-copy-out-put-line c = c.before.loop-test.true
 
 put-line-requires : tie.Need-put-line-requires invariant-loop decreases-loop
-put-line-requires c κs = joined-room _ c.before.before.before.loop.invariant.1 (room c.before.before.before.before.before.before) c.before.before.loop-test.true
+put-line-requires c κs = joined_room _ c.before.before.before.loop.invariant.1 (room c.before.before.before.before.before.before) c.before.before.loop-test.true
 
 add-i : tie.Need-overflow-add-i invariant-loop decreases-loop
 add-i c = omega (arith, c.before.before.before.before.before.loop-test.true)
@@ -44,7 +44,7 @@ loop-less c = omega (arith, c.before.before.before.before.before.loop-test.true)
 loop-again : tie.Need-loop-preserved invariant-loop decreases-loop
 loop-again c =
     let inside = c.before.before.before.before.before.loop-test.true in
-    (omega (arith, inside), joined-more _ c.before.before.before.before.before.before.loop.invariant.1 (room c.before.before.before.before.before.before.before.before.before) inside c.before.before.put-line.ensures)
+    (omega (arith, inside), joined_more _ c.before.before.before.before.before.before.loop.invariant.1 (room c.before.before.before.before.before.before.before.before.before) inside c.before.before.put-line.ensures)
 
 same_length : tie.Need-same-length invariant-loop decreases-loop
 same_length c = c.before.loop.invariant.1.kept
