@@ -1,6 +1,8 @@
 // The ground floor: rounded division and the nearest root, each once for every unit, and three small choices.
 // Nothing here knows of stacks or meters. The layers above rely on `round_div` and `nearest_root` and their laws.
 
+#![tactic(auto)]
+
 ghost use Rattle.std.specs.Prelude.{◌≡◌, ◌-◌, ◌<◌, min, max};
 ghost use Rattle.arith.specs.Rounding.{round_div, division};
 ghost use Rattle.arith.specs.Root.{nearest_root, whole_root, first_bound};

@@ -1,1 +1,3 @@
 // Arrays filled from the front: only their definition and its laws, for the loops above that fill them.
+
+#![tactic(auto)]

@@ -84,7 +84,7 @@ checks_first t (r ∷ rs) =
 pub checks_both : (t : Trouble) (rs qs : List Row) → checks t (rs ++ qs) ≡ checks (checks t rs) qs
 unfolding checks
 checks_both t [] qs = refl
-checks_both t (r ∷ rs) qs = checks_both _ rs qs
+checks_both t (r ∷ rs) qs = checks_both (unless t r.ok r.number r.place) rs qs
 
 -- rows moved along: their trouble moved along
 checks_moved : (m : ℕ) (t : Trouble) (rs : List Row) → checks (from m t) (moved_along m rs) ≡ from m (checks t rs)

@@ -9,4 +9,4 @@ use mir.Val.{to_z, of_z}
 use mir.Facts.{to_z-of_z}
 
 pub read_back : {z y : ℤ} → mag z < 32768 → z ≡ y → to_z w16 (of_z w16 z) ≡ y
-read_back h e = to_z-of_z (sfits_of h) ∙ e
+read_back h e = to_z-of_z {w = w16} (sfits_of h) ∙ e

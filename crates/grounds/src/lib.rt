@@ -1,6 +1,8 @@
 // What a rule goes by at one place, and whether that breaks it. A rule that compares numbers is its comparison.
 // Nothing here knows which rule it is.
 
+#![tactic(auto)]
+
 pub mod comparison;
 
 ghost use Rattle.std.specs.Prelude.{◌≡◌, cond, length};

@@ -1,6 +1,8 @@
 // What a call gives back: its answer as one number, and bytes written one after another into a buffer that the caller lends.
 // Each writer's contract says what every byte of the buffer is afterwards. Relies on nothing below it.
 
+#![tactic(auto)]
+
 ghost use Rattle.std.specs.Prelude.{◌≡◌, [], ◌∷◌, ◌+◌, ◌<◌, ◌≤◌, length};
 ghost use Rattle.output.specs.Answers.{packed};
 ghost use Rattle.output.specs.Bytes.{le, signed_bits};

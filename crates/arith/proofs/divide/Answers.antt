@@ -3,11 +3,9 @@ use Prim.Native.Nat.{ℕ, ◌+◌, ◌-◌, ◌*◌, ◌/◌, ◌%◌, ◌≤◌
 use mathlib.Core.Path.{◌≡◌}
 use native.Mathlib.Nat.{mod-lt, le_of_lt, div-add-mod', le-mul_of_pos_right}
 use native.Mathlib.Omega.{arith}
-use borrow.Author.Rules.{rules}
 use Rattle.arith.specs.Rounding.{division}
 use Rattle.arith.proofs.Rounding.{round_up, round_down}
-use Rattle.arith.proofs.divide.Statement.{statement}
-use Rattle.arith.proofs.divide.Tie as tie
+use Rattle.arith.proofs.divide.Goals as goal
 
 -- where the half is reached the remainder is not 0, so one more is still at most n
 next_le : (n d : ℕ) → 0 < d → d - n % d ≤ n % d → n / d + 1 ≤ n
@@ -16,25 +14,16 @@ next_le n d h up =
     let whole : n / d ≤ n / d * d = le-mul_of_pos_right (n / d) h in
     omega arith
 
-div-quotient : tie.Need-nonzero-div-quotient
-div-quotient c = search rules
+pub overflow_sub-d : goal.overflow_sub-d
+overflow_sub-d c = le_of_lt (mod-lt _ c.requires)
 
-rem-remainder : tie.Need-nonzero-rem-remainder
-rem-remainder c = search rules
+pub overflow_add-rounded : goal.overflow_add-rounded
+overflow_add-rounded c = omega (arith, next_le _ _ c.requires c.if-d-remainder.true)
 
-sub-if1 : tie.Need-overflow-sub-if1
-sub-if1 c = le_of_lt (mod-lt _ c.requires)
-
-add-rounded : tie.Need-overflow-add-rounded
-add-rounded c = omega (arith, next_le _ _ c.before.requires c.if1.true)
-
-returns : tie.Need-returns
+pub returns-then-d-remainder : goal.returns-then-d-remainder
 unfolding division
-returns c = rw (round_up _ _ c.before.requires c.if1.true)
+returns-then-d-remainder c = rw (round_up _ _ c.requires c.if-d-remainder.true)
 
-returns-2 : tie.Need-returns-2
+pub returns-else-d-remainder : goal.returns-else-d-remainder
 unfolding division
-returns-2 c = rw (round_down _ _ c.before.requires c.if1.false)
-
-pub divide-spec : {M : Type 1} → statement M
-divide-spec = tie.close (tie.spec div-quotient rem-remainder sub-if1 add-rounded returns returns-2)
+returns-else-d-remainder c = rw (round_down _ _ c.requires c.if-d-remainder.false)

@@ -1,0 +1,9 @@
+-- `u16_at` is `u16_at`: two bytes.
+use mathlib.Core.Path.{ap₂}
+use Prim.Native.Nat.{ℕ, ◌+◌, ◌*◌}
+use Rattle.fields.specs.Numbers.{u16_at}
+use Rattle.fields.proofs.numbers.u16_at.Goals as goal
+
+pub returns : goal.returns
+unfolding u16_at
+returns c = ap₂ (λ (low high : ℕ). low + 256 * high) c.byte-low.ensures c.byte-high.ensures
