@@ -1,6 +1,8 @@
 // The grids of a rectangular stack: which numbers of points there are, in a run and in a layout.
 // Relies on the lists of `numbered`.
 
+#![tactic(auto)]
+
 ghost use Rattle.std.specs.Prelude.{◌≡◌};
 ghost use Rattle.grids.specs.Grids.{grid_points, next_grid};
 

@@ -2,6 +2,8 @@
 // it; and the trouble met in it, by which a file that is no job is told before anything else of it is looked at. Relies on the
 // numbers and the trouble of fields and on the kinds of reading.
 
+#![tactic(auto)]
+
 ghost use Rattle.std.specs.Prelude.{◌≡◌, ◌≤◌, length};
 ghost use Rattle.opening.specs.Opening.{file_header_size, marked, version_of, letters, file_trouble};
 

@@ -1,6 +1,8 @@
 // What a job holds, as structs by value, each field as it stands in the file.
 // Every field is kept, so that a job can be written back from its records. Relies on the kinds of reading for the ranges.
 
+#![tactic(auto)]
+
 ghost use Rattle.std.specs.Prelude.{◌≡◌};
 ghost use Rattle.records.specs.Records.{same_identity};
 
