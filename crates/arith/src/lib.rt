@@ -29,7 +29,7 @@ pub fn larger(a: u64, b: u64) -> u64
 }
 
 // A division: the whole quotient, the remainder, and the nearest whole number, halves upward.
-#[derive(Drop)]
+#[derive(Clone, Copy)]
 pub struct Division {
     pub quotient: u64,
     pub remainder: u64,

@@ -33,7 +33,7 @@ const HEADER_SIZE: usize = 18;
 
 // A size that the header gives, as far as the buffer goes: the smaller of the size and the buffer's length.
 fn within(size: usize, buf: &[u8]) -> usize
-    ensures prefix_len { IsPrefixLen result buf.now }
+    ensures within { IsPrefixLen result buf.now }
     ensures value { result ≡ min size (length buf.now) }
 {
     if size < buf.len() { size } else { buf.len() }

@@ -1,6 +1,8 @@
 // Words and decimal numbers as characters. Each writer puts its text at a place of a buffer and answers the place after it;
 // its contract names the list of characters, and asks for room for it and no more. Relies on the promises of `output`.
 
+#![tactic(auto)]
+
 ghost use Rattle.characters.specs.Numbers.{decimal, signed_decimal};
 ghost use Rattle.characters.specs.Writing.{Room, Wrote};
 

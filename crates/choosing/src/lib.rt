@@ -1,20 +1,22 @@
 // Which of two certificates a run is worked with: by kind, maker, serial and letter, the latest dated on or before the run's day, or the
 // earliest dated later. Relies on the records and their comparison; where the certificates come from does not matter here.
 
+#![tactic(auto)]
+
 ghost use Rattle.std.specs.Prelude.{◌≡◌};
 ghost use Rattle.choosing.specs.Choosing.{so_dated, nearer, eligible, replaces};
 
 use records::{Certificate, Identity};
 
 // What a search for a certificate answers.
-#[derive(Drop)]
+#[derive(Clone, Copy)]
 pub enum Lookup {
     Found(Certificate),
     Nothing,
 }
 
 // The certificates that a run is worked with: of its meter before and after, of its pitot tube and of its nozzle before.
-#[derive(Drop)]
+#[derive(Clone, Copy)]
 pub struct Chosen {
     pub before: Lookup,
     pub after: Lookup,

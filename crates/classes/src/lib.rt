@@ -1,5 +1,7 @@
 // What each rule is about, by its number: of what places it speaks, and the class of its findings by the job's version.
 
+#![tactic(auto)]
+
 ghost use Rattle.std.specs.Prelude.{◌≡◌};
 ghost use Rattle.classes.specs.Classes.{places_of, place_at, class_of};
 

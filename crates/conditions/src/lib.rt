@@ -9,7 +9,7 @@ pub mod weighings;
 use records::{Point, Segment, Weighing};
 
 // What a rule looks at: one of the run's points, segments or weighings, or the run as a whole.
-#[derive(Drop)]
+#[derive(Clone, Copy)]
 pub enum Part {
     Whole,
     OnePoint(Point),

@@ -8,7 +8,6 @@ use grounds::comparison::{Comparison, ExactComparison, Way};
 use values::{Ratio, Value};
 
 // The least and the greatest percent isokinetic, 0.01 percent.
-#[derive(Drop)]
 pub struct Isokinetic;
 
 impl Isokinetic {

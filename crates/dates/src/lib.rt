@@ -19,7 +19,7 @@ pub const BEFORE: u8 = 1;
 pub const AFTER: u8 = 2;
 
 // On which sides of the run's day a rule uses certificates of a kind.
-#[derive(Drop)]
+#[derive(Clone, Copy)]
 pub enum Use {
     Neither,
     Before,
@@ -27,7 +27,7 @@ pub enum Use {
 }
 
 // The day of the nearest certificate on one side: none is used, its day, or none is so dated.
-#[derive(Drop)]
+#[derive(Clone, Copy)]
 pub enum Day {
     Unused,
     On(u16),
@@ -35,14 +35,14 @@ pub enum Day {
 }
 
 // On or before the run's day, and later.
-#[derive(Drop)]
+#[derive(Clone, Copy)]
 pub struct Sides {
     pub before: Day,
     pub after: Day,
 }
 
 // The days of each kind.
-#[derive(Drop)]
+#[derive(Clone, Copy)]
 pub struct Days {
     pub meter: Sides,
     pub pitot: Sides,

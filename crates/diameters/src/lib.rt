@@ -1,13 +1,15 @@
 // The diameter of a stack, as a fraction: a rectangle's is never divided out, and whoever compares it cross-multiplies.
 // Relies on what a site holds.
 
+#![tactic(auto)]
+
 ghost use Rattle.diameters.specs.Diameters.{diameter, half_diameter, IsLength};
 
 use readings::runs::Shape;
 use records::Site;
 
 // A length as a fraction, over / under, 0.1 in.
-#[derive(Drop)]
+#[derive(Clone, Copy)]
 pub struct Length {
     pub over: u64,
     pub under: u64,

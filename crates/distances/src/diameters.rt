@@ -18,8 +18,8 @@ const WIDE_MARGIN: u64 = 1000;
 
 // Point i of n, for i up to n/2: half the diameter, 500, less the radius that has (n - 2i + 1)/n of the area inside it.
 fn near_position(n: u64, i: u64) -> u64
-    requires n_value { diameter_points n ≡ true }
-    requires le_i { (1 ≤ i) × (2 * i ≤ n) }
+    requires points { diameter_points n ≡ true }
+    requires near { (1 ≤ i) × (2 * i ≤ n) }
     ensures { AtMost 499 (near_position n i) result }
 {
     500 - nearest_root(1000000 * (n - 2 * i + 1) / n)
@@ -27,8 +27,8 @@ fn near_position(n: u64, i: u64) -> u64
 
 // Point i of n, from the near wall: the far half mirrors the near one.
 fn position(n: u64, i: u64) -> u64
-    requires n_value { diameter_points n ≡ true }
-    requires le_i { (1 ≤ i) × (i ≤ n) }
+    requires points { diameter_points n ≡ true }
+    requires point { (1 ≤ i) × (i ≤ n) }
     ensures { AtMost 1000 (position n i) result }
 {
     if 2 * i <= n {
@@ -58,8 +58,8 @@ fn kept(margin: u64, width: u64, distance: u64) -> u64
 
 // The distance of point i of n from the near wall, 0.001 in. The stack is 100 * diameter wide.
 pub fn distance(n: u64, diameter: u64, nozzle: u64, i: u64) -> u64
-    requires nozzle_value { round_fits n diameter nozzle ≡ true }
-    requires le_i { (1 ≤ i) × (i ≤ n) }
+    requires layout { round_fits n diameter nozzle ≡ true }
+    requires point { (1 ≤ i) × (i ≤ n) }
     ensures { AtMost 999900 (distance n diameter nozzle i) result }
 {
     let measured = round_div(position(n, i) * diameter, 10);

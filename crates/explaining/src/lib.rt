@@ -19,7 +19,7 @@ use reduction::reduce;
 use steps::Figure;
 
 // Why a run has a finding: the finding, whether the stack is round, what the rule goes by, and the days that it uses.
-#[derive(Drop)]
+#[derive(Clone, Copy)]
 pub struct Explanation {
     pub finding: Finding,
     pub round: bool,
@@ -28,7 +28,7 @@ pub struct Explanation {
 }
 
 // What comes of asking why a run has a finding.
-#[derive(Drop)]
+#[derive(Clone, Copy)]
 pub enum Explained {
     // The run does not have it.
     NoFinding,

@@ -3,7 +3,7 @@
 ghost use Rattle.std.specs.Prelude.{◌≡◌, ◌+◌, ◌^◌, ◌<◌};
 ghost use Rattle.fields.specs.Trouble.{unless, from, trouble_place};
 
-#[derive(Drop)]
+#[derive(Clone, Copy)]
 pub enum Trouble {
     Clear,
     At(u32, usize),

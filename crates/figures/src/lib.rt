@@ -21,7 +21,7 @@ const VERSION_AT: usize = 3;
 const LAST_AT: usize = 5;
 
 // What a file supplies: the figure in it, or the first trouble met and no figure.
-#[derive(Drop)]
+#[derive(Clone, Copy)]
 pub struct Supplied {
     pub trouble: Trouble,
     pub figure: Figure,

@@ -15,7 +15,7 @@ use steps::{PLACES, Step};
 const STEP_SIZE: usize = 4;
 
 // What a step has to keep to: the least distance that it may have, and the most points that it may ask for, by shape.
-#[derive(Drop)]
+#[derive(Clone, Copy)]
 pub struct Limits {
     pub least: u32,
     pub round: u8,
@@ -112,8 +112,8 @@ pub fn trouble(s: &[u8], at: usize) -> Trouble
 // The place behind the list at a place.
 pub fn end(s: &[u8], at: usize) -> usize
     requires { at ≤ 10000 }
-    ensures value { result ≡ list_end s.now at }
-    ensures upper_bound { result ≤ at + 1021 }
+    ensures end { result ≡ list_end s.now at }
+    ensures near { result ≤ at + 1021 }
 {
     place(at, byte(s, at) as usize)
 }

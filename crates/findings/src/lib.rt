@@ -22,7 +22,7 @@ use steps::Figure;
 use weighings::of_kind;
 
 // A broken rule: its number, its class and the place.
-#[derive(Drop)]
+#[derive(Clone, Copy)]
 pub struct Finding {
     pub rule: u8,
     pub class: u8,
@@ -33,14 +33,14 @@ pub struct Finding {
 pub const MOST_FINDINGS: usize = 98;
 
 // A run's findings in order, and behind them nothing but zeros.
-#[derive(Drop)]
+#[derive(Clone, Copy)]
 pub struct Findings {
     pub count: usize,
     pub list: [Finding; MOST_FINDINGS],
 }
 
 // What is sought of a run: all of its findings, or what stands behind that of a rule at a place.
-#[derive(Drop)]
+#[derive(Clone, Copy)]
 pub enum Sought {
     All,
     Why(u8, u16),
@@ -82,7 +82,7 @@ impl Sought {
 }
 
 // What a walk over the rules comes to: the findings met, and what the rule of the one sought goes by.
-#[derive(Drop)]
+#[derive(Clone, Copy)]
 pub struct Walked {
     pub findings: Findings,
     pub ground: Ground,

@@ -13,7 +13,7 @@ use reasons::{bytes, texts};
 use text::runs::put_finding;
 
 // How an explanation is handed over.
-#[derive(Drop)]
+#[derive(Clone, Copy)]
 pub enum Form {
     Bytes,
     Text,

@@ -7,7 +7,6 @@ ghost use Rattle.std.specs.Prelude.{◌≡◌};
 ghost use Rattle.grids.specs.Grids.{grid_points, next_grid};
 
 // Points of a rectangular grid, one in each cell: 3x3, 4x3, 4x4, 5x4, 5x5, 6x5, 6x6, 7x6 or 7x7.
-#[derive(Drop)]
 pub struct GridPoints;
 
 // The numbers of points, the largest last.

@@ -4,7 +4,7 @@ ghost use Rattle.std.specs.Prelude.{◌≡◌};
 ghost use Rattle.grounds.specs.Comparing.{holds, deciding, apart};
 
 // Which way a comparison goes.
-#[derive(Drop)]
+#[derive(Clone, Copy)]
 pub enum Way {
     Below,
     Above,
@@ -13,7 +13,7 @@ pub enum Way {
 }
 
 // Two numbers, and the way that one is set against the other.
-#[derive(Drop)]
+#[derive(Clone, Copy)]
 pub struct Comparison {
     pub left: u64,
     pub way: Way,
@@ -36,7 +36,7 @@ impl Comparison {
 }
 
 // A quotient with its remainder, set against a limit and 0.
-#[derive(Drop)]
+#[derive(Clone, Copy)]
 pub struct ExactComparison {
     pub quotient: u64,
     pub remainder: u64,

@@ -11,7 +11,7 @@ ghost use Rattle.grounds.specs.Showing.{shown};
 
 use crate::comparison::{Comparison, ExactComparison};
 
-#[derive(Drop)]
+#[derive(Clone, Copy)]
 pub enum Ground {
     // What the rule speaks of is not there.
     Silent,

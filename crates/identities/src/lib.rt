@@ -2,6 +2,8 @@
 // tube or a nozzle: what is held there, the trouble met in it, and the record as it goes on behind it. Relies on the numbers and the
 // trouble of fields, on the version and on the kinds of reading.
 
+#![tactic(auto)]
+
 ghost use Rattle.std.specs.Prelude.{◌≡◌, ◌+◌, ◌^◌, ◌<◌, ◌≤◌, length};
 ghost use Rattle.fields.specs.Trouble.{checks};
 ghost use Rattle.records.specs.InRange.{maker_letters};

@@ -14,7 +14,7 @@ use heads::certificate;
 use readings::headers::RunCount;
 
 // What a file holds. A job in trouble holds nothing: no certificates, no runs, and zeros for places.
-#[derive(Drop)]
+#[derive(Clone, Copy)]
 pub struct Job {
     pub trouble: Trouble,
     pub certificates: usize,

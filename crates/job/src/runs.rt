@@ -18,7 +18,7 @@ use readings::points::TotalSeconds;
 use records::Counts;
 
 // Where each run starts; zeros where there is trouble.
-#[derive(Drop)]
+#[derive(Clone, Copy)]
 pub struct Walk {
     pub trouble: Trouble,
     pub starts: [usize; RunCount::GREATEST as usize],

@@ -8,7 +8,7 @@ use sampling::Sampling;
 use stack::Stack;
 
 // All twenty lines by name, for the findings.
-#[derive(Drop)]
+#[derive(Clone, Copy)]
 pub struct Lines {
     pub metering: Metering,
     pub stack: Stack,
@@ -16,14 +16,14 @@ pub struct Lines {
 }
 
 // A line as it is written: present with its value, or absent.
-#[derive(Drop)]
+#[derive(Clone, Copy)]
 pub enum Line {
     Present(i64),
     Absent,
 }
 
 // A line in its place on the sheet.
-#[derive(Drop)]
+#[derive(Clone, Copy)]
 pub struct Entry {
     pub line: Line,
 }
@@ -32,7 +32,7 @@ pub struct Entry {
 pub const LINES: usize = 20;
 
 // A run's sheet: lines 1 to 20 in order.
-#[derive(Drop)]
+#[derive(Clone, Copy)]
 pub struct Sheet {
     pub entries: [Entry; LINES],
 }

@@ -16,8 +16,8 @@ use values::Value;
 
 // From the run and its meter's factor Y.
 pub fn metering(run: Run, y: Value) -> Metering
-    requires run_ok { RunOk run }
-    requires between { Between least_factor greatest_factor y }
+    requires run { RunOk run }
+    requires factor { Between least_factor greatest_factor y }
     ensures { (result ≡ metering run y) × MeteringOk result }
 {
     let header = run.header;

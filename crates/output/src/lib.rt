@@ -9,7 +9,7 @@ ghost use Rattle.output.specs.Bytes.{le, signed_bits};
 ghost use Rattle.output.specs.Splice.{spliced};
 
 // What a call answers: done, with a number; or refused, with its number and the place.
-#[derive(Drop)]
+#[derive(Clone, Copy)]
 pub enum Answer {
     Done(u32),
     Refused(u32, u32),

@@ -30,8 +30,8 @@ fn put_refusal(out: &mut [u8], at: usize, number: u32, place: usize) -> usize
 
 // The runs of a job without trouble, by a figure.
 pub fn put_runs(figure: Figure, s: &[u8], job: Job, out: &mut [u8]) -> usize
-    requires clear_job { ClearJob s.now job }
-    requires in_bounds { 27088 ≤ length out.old }
+    requires clear { ClearJob s.now job }
+    requires room { 27088 ≤ length out.old }
     ensures { Wrote out.old 0 (runs_text figure s.now job.runs) out.new result }
 {
     let runs = job.runs;

@@ -6,7 +6,6 @@ ghost use Rattle.readings.specs.Ranges.{certificate_kind, letter, serial, rebuil
 use crate::range;
 
 // What a certificate is of.
-#[derive(Drop)]
 pub struct CertificateKind;
 
 impl CertificateKind {
@@ -32,7 +31,6 @@ impl CertificateKind {
 }
 
 // A letter of a maker's name, A to Z.
-#[derive(Drop)]
 pub struct Letter;
 
 impl Letter {
@@ -48,7 +46,6 @@ impl Letter {
 }
 
 // A serial number.
-#[derive(Drop)]
 pub struct Serial;
 
 impl Serial {
@@ -64,7 +61,6 @@ impl Serial {
 }
 
 // The letter that a rebuild gives, A to Z, or none.
-#[derive(Drop)]
 pub struct RebuildLetter;
 
 impl RebuildLetter {
@@ -81,7 +77,6 @@ impl RebuildLetter {
 }
 
 // Meter factor Y, 1/10,000.
-#[derive(Drop)]
 pub struct Factor;
 
 impl Factor {
@@ -97,7 +92,6 @@ impl Factor {
 }
 
 // Pitot coefficient Cp, 1/1,000.
-#[derive(Drop)]
 pub struct Coefficient;
 
 impl Coefficient {
@@ -117,7 +111,6 @@ impl Coefficient {
 }
 
 // A diameter of a nozzle, 0.001 in: in a certificate and in a layout.
-#[derive(Drop)]
 pub struct NozzleDiameter;
 
 impl NozzleDiameter {
@@ -137,7 +130,6 @@ impl NozzleDiameter {
 }
 
 // A field that the file format fixes at 0.
-#[derive(Drop)]
 pub struct Unused;
 
 impl Unused {

@@ -5,7 +5,6 @@ ghost use Rattle.readings.specs.Ranges.{figure_version, step_count, step_points}
 
 use crate::range;
 
-#[derive(Drop)]
 pub struct FigureVersion;
 
 impl FigureVersion {
@@ -25,7 +24,6 @@ impl FigureVersion {
 }
 
 // How many steps a list holds.
-#[derive(Drop)]
 pub struct StepCount;
 
 impl StepCount {
@@ -45,7 +43,6 @@ impl StepCount {
 }
 
 // The points that a step asks for: by shape at most so many, and then no more than the step before.
-#[derive(Drop)]
 pub struct StepPoints;
 
 impl StepPoints {

@@ -6,7 +6,7 @@ ghost use Rattle.readings.specs.Ranges.{version, certificate_count, run_count};
 use crate::range;
 
 // A job file's version. In the second a letter follows each serial number, and a meter that moved voids a run.
-#[derive(Drop)]
+#[derive(Clone, Copy)]
 pub enum Version {
     One,
     Two,
@@ -29,7 +29,6 @@ impl Version {
 }
 
 // How many certificates a job holds.
-#[derive(Drop)]
 pub struct CertificateCount;
 
 impl CertificateCount {
@@ -49,7 +48,6 @@ impl CertificateCount {
 }
 
 // How many runs a job holds.
-#[derive(Drop)]
 pub struct RunCount;
 
 impl RunCount {

@@ -6,7 +6,6 @@ ghost use Rattle.readings.specs.Ranges.{layout_diameter, diameter_points};
 use crate::range;
 
 // Diameter of a round stack that is laid out, 0.1 in.
-#[derive(Drop)]
 pub struct LayoutDiameter;
 
 impl LayoutDiameter {
@@ -26,7 +25,6 @@ impl LayoutDiameter {
 }
 
 // Points on a diameter: an even number.
-#[derive(Drop)]
 pub struct DiameterPoints;
 
 impl DiameterPoints {

@@ -6,7 +6,6 @@ ghost use Rattle.readings.specs.Ranges.{run_number, barometer, static_pressure, 
 use crate::range;
 
 // A run's number.
-#[derive(Drop)]
 pub struct RunNumber;
 
 impl RunNumber {
@@ -26,7 +25,6 @@ impl RunNumber {
 }
 
 // Barometric pressure Pb, 0.01 in Hg.
-#[derive(Drop)]
 pub struct Barometer;
 
 impl Barometer {
@@ -46,7 +44,6 @@ impl Barometer {
 }
 
 // Stack static pressure Pg, 0.01 in water.
-#[derive(Drop)]
 pub struct StaticPressure;
 
 impl StaticPressure {
@@ -62,7 +59,6 @@ impl StaticPressure {
 }
 
 // CO2, 0.1 percent.
-#[derive(Drop)]
 pub struct CarbonDioxide;
 
 impl CarbonDioxide {
@@ -82,7 +78,6 @@ impl CarbonDioxide {
 }
 
 // O2, 0.1 percent: from 0 to what CO2 leaves of 1,000.
-#[derive(Drop)]
 pub struct Oxygen;
 
 impl Oxygen {
@@ -102,7 +97,6 @@ impl Oxygen {
 }
 
 // The meter's first reading, 0.001 cubic ft.
-#[derive(Drop)]
 pub struct FirstReading;
 
 impl FirstReading {
@@ -122,7 +116,6 @@ impl FirstReading {
 }
 
 // The meter's last reading, 0.001 cubic ft: from the first reading to 999,999 above it.
-#[derive(Drop)]
 pub struct LastReading;
 
 impl LastReading {
@@ -142,7 +135,6 @@ impl LastReading {
 }
 
 // Water collected, 0.1 ml.
-#[derive(Drop)]
 pub struct Water;
 
 impl Water {
@@ -158,7 +150,6 @@ impl Water {
 }
 
 // The shape of the stack: 1 round, 2 rectangular.
-#[derive(Drop)]
 pub struct Shape;
 
 impl Shape {
@@ -178,7 +169,6 @@ impl Shape {
 }
 
 // A side of the stack, or its diameter, 0.1 in: in a run and in a layout.
-#[derive(Drop)]
 pub struct Side;
 
 impl Side {
@@ -204,7 +194,6 @@ impl Side {
 }
 
 // Volume of the acetone blank, ml.
-#[derive(Drop)]
 pub struct BlankVolume;
 
 impl BlankVolume {
@@ -224,7 +213,6 @@ impl BlankVolume {
 }
 
 // Volume of the acetone rinse, ml.
-#[derive(Drop)]
 pub struct RinseVolume;
 
 impl RinseVolume {
@@ -244,7 +232,6 @@ impl RinseVolume {
 }
 
 // Density of the acetone, 0.1 mg/ml.
-#[derive(Drop)]
 pub struct AcetoneDensity;
 
 impl AcetoneDensity {
@@ -264,7 +251,6 @@ impl AcetoneDensity {
 }
 
 // How many points a run holds.
-#[derive(Drop)]
 pub struct PointCount;
 
 impl PointCount {
@@ -284,7 +270,6 @@ impl PointCount {
 }
 
 // How many segments a run holds.
-#[derive(Drop)]
 pub struct SegmentCount;
 
 impl SegmentCount {
@@ -304,7 +289,6 @@ impl SegmentCount {
 }
 
 // How many weighings a run holds.
-#[derive(Drop)]
 pub struct WeighingCount;
 
 impl WeighingCount {

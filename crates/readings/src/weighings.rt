@@ -6,7 +6,6 @@ ghost use Rattle.readings.specs.Ranges.{weighing_kind, weight};
 use crate::range;
 
 // What was weighed.
-#[derive(Drop)]
 pub struct WeighingKind;
 
 impl WeighingKind {
@@ -30,7 +29,6 @@ impl WeighingKind {
 }
 
 // A tare or a final weight, 0.1 mg.
-#[derive(Drop)]
 pub struct Weight;
 
 impl Weight {

@@ -9,7 +9,7 @@ ghost use Rattle.records.specs.Records.{same_identity};
 use readings::runs::{PointCount, SegmentCount, WeighingCount};
 
 // A maker: three letters.
-#[derive(Drop)]
+#[derive(Clone, Copy)]
 pub struct Maker {
     pub first: u8,
     pub second: u8,
@@ -18,7 +18,7 @@ pub struct Maker {
 
 // What tells one meter, pitot tube or nozzle from another of its kind. A serial number alone does not; a rebuilt one keeps it and
 // gets another letter, 0 standing for none.
-#[derive(Drop)]
+#[derive(Clone, Copy)]
 pub struct Identity {
     pub maker: Maker,
     pub serial: u32,
@@ -46,7 +46,7 @@ impl Identity {
 }
 
 // A certificate: the values are a meter's factor, a pitot tube's coefficient, or a nozzle's three diameters.
-#[derive(Drop)]
+#[derive(Clone, Copy)]
 pub struct Certificate {
     pub kind: u8,
     pub identity: Identity,
@@ -57,7 +57,7 @@ pub struct Certificate {
 }
 
 // A traverse point: time, heads and temperatures.
-#[derive(Drop)]
+#[derive(Clone, Copy)]
 pub struct Point {
     pub seconds: u16,
     pub head: u16,
@@ -68,14 +68,14 @@ pub struct Point {
 }
 
 // A stretch of the run between two leak checks.
-#[derive(Drop)]
+#[derive(Clone, Copy)]
 pub struct Segment {
     pub seconds: u16,
     pub leak: u16,
 }
 
 // A filter or a rinse, weighed: tare, first and second final weight.
-#[derive(Drop)]
+#[derive(Clone, Copy)]
 pub struct Weighing {
     pub kind: u8,
     pub tare: u32,
@@ -84,7 +84,7 @@ pub struct Weighing {
 }
 
 // The sampling site: shape, sides, the distance to the next disturbance and that from the last one.
-#[derive(Drop)]
+#[derive(Clone, Copy)]
 pub struct Site {
     pub shape: u8,
     pub first: u16,
@@ -94,7 +94,7 @@ pub struct Site {
 }
 
 // The acetone blank and the rinse.
-#[derive(Drop)]
+#[derive(Clone, Copy)]
 pub struct Acetone {
     pub residue: u16,
     pub blank: u16,
@@ -103,7 +103,7 @@ pub struct Acetone {
 }
 
 // How many of its points, segments and weighings a run uses.
-#[derive(Drop)]
+#[derive(Clone, Copy)]
 pub struct Counts {
     pub points: u8,
     pub segments: u8,
@@ -112,7 +112,7 @@ pub struct Counts {
 
 // The head of a run's field sheet: what it is of, the barometer Pb and the static pressure Pg, the gas, the meter's first and
 // last reading, and the rest.
-#[derive(Drop)]
+#[derive(Clone, Copy)]
 pub struct RunHeader {
     pub number: u16,
     pub day: u16,
@@ -132,7 +132,7 @@ pub struct RunHeader {
 }
 
 // A run: its header, and as many of each list as its counts say.
-#[derive(Drop)]
+#[derive(Clone, Copy)]
 pub struct Run {
     pub header: RunHeader,
     pub points: [Point; PointCount::GREATEST as usize],

@@ -21,7 +21,7 @@ use steps::Figure;
 
 // What comes of a run: its number, its sheet, its findings, whether none of these is a fault, and what the rule of a finding that was
 // sought goes by.
-#[derive(Drop)]
+#[derive(Clone, Copy)]
 pub struct Reduced {
     pub number: u16,
     pub accepted: bool,
@@ -31,7 +31,7 @@ pub struct Reduced {
 }
 
 // What a search for a run by its number answers.
-#[derive(Drop)]
+#[derive(Clone, Copy)]
 pub enum Which {
     Index(usize),
     NoRun,
@@ -40,7 +40,7 @@ pub enum Which {
 // A run, wherever it comes from, reduced with the first `count` certificates of a file, by its version and by a figure, and what is
 // sought of its findings.
 pub fn work(s: &[u8], v: Version, figure: Figure, count: usize, run: Run, sought: Sought) -> Reduced
-    requires v_value { (v ≡ version_of s.now) × ReducibleFrom s.now count run }
+    requires reducible { (v ≡ version_of s.now) × ReducibleFrom s.now count run }
     requires seekable { Seekable sought }
     ensures { result ≡ judged sought v figure run (chosen_for (certificate_of s.now) count run.header) }
 {
@@ -63,7 +63,7 @@ pub fn work(s: &[u8], v: Version, figure: Figure, count: usize, run: Run, sought
 
 // Run k of a job without trouble, counted from 0 in file order, by a figure, and what is sought of its findings.
 pub fn reduce(s: &[u8], job: Job, figure: Figure, k: usize, sought: Sought) -> Reduced
-    requires clear_run { ClearRun s.now job k }
+    requires clear { ClearRun s.now job k }
     requires seekable { Seekable sought }
     ensures { result ≡ judged_run sought figure s.now k }
 {

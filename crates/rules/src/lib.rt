@@ -22,7 +22,7 @@ pub const LAST_RULE: u8 = 20;
 
 // What a rule may see beside its part: the chosen certificates, the lines, the site, the counts, how many filters and
 // rinses there are, and the least number of points, the number and not how it came about.
-#[derive(Drop)]
+#[derive(Clone, Copy)]
 pub struct Beside {
     pub chosen: Chosen,
     pub lines: Lines,

@@ -16,10 +16,10 @@ use values::Diameters;
 
 // From the run, its lines 1 to 15 and its nozzle's diameters.
 pub fn sampling(run: Run, m: Metering, s: Stack, nozzle: Diameters) -> Sampling
-    requires run_ok { RunOk run }
-    requires metering_ok { MeteringOk m }
-    requires stack_ok { StackOk s }
-    requires diameters_ok { DiametersOk nozzle }
+    requires run { RunOk run }
+    requires metering { MeteringOk m }
+    requires stack { StackOk s }
+    requires diameters { DiametersOk nozzle }
     ensures { (result ≡ sampling run m s nozzle) × SamplingOk result }
 {
     let header = run.header;

@@ -18,7 +18,7 @@ use records::{Acetone, Weighing};
 use values::{Diameters, Ratio, Value};
 
 // Lines 16 to 20.
-#[derive(Drop)]
+#[derive(Clone, Copy)]
 pub struct Sampling {
     pub area: Value,
     pub drawn: Value,
@@ -41,8 +41,8 @@ pub fn nozzle_area(nozzle: Diameters) -> Value
 
 // Line 17.
 pub fn drawn_gas(dry: Value, vapor: u64, pressure: u64, temperature: u64) -> Value
-    requires between { Between least_dry_volume greatest_dry_volume dry }
-    requires vapor_bound { (vapor ≤ 94140) × (177941 ≤ pressure) × (pressure ≤ 342059) × (temperature ≤ 24600) }
+    requires dry { Between least_dry_volume greatest_dry_volume dry }
+    requires ranges { (vapor ≤ 94140) × (177941 ≤ pressure) × (pressure ≤ 342059) × (temperature ≤ 24600) }
     ensures { IsValue 0 19675261 (drawn_gas dry vapor pressure temperature) result }
 {
     let Value::Known(volume) = dry else {
@@ -53,10 +53,10 @@ pub fn drawn_gas(dry: Value, vapor: u64, pressure: u64, temperature: u64) -> Val
 
 // Line 18, 0.01 percent, and what its one division comes to before it is rounded.
 pub fn isokinetic(drawn: Value, velocity: Value, area: Value, time: u64) -> Ratio
-    requires between { Between 0 19675261 drawn }
-    requires between_2 { Between 0 greatest_velocity velocity }
-    requires between_3 { Between 5454 545417 area }
-    requires least_seconds_le_time { (least_seconds ≤ time) × (time ≤ greatest_total_seconds) }
+    requires drawn { Between 0 19675261 drawn }
+    requires velocity { Between 0 greatest_velocity velocity }
+    requires area { Between 5454 545417 area }
+    requires time { (least_seconds ≤ time) × (time ≤ greatest_total_seconds) }
     ensures { IsRatio 0 2164495159515952 (isokinetic drawn velocity area time) result }
 {
     let Value::Known(gas) = drawn else {
@@ -85,7 +85,7 @@ pub fn deduction(acetone: Acetone) -> u64
 }
 
 // What all weighings come to, 0.1 mg: the second final weights, and the tares.
-#[derive(Drop)]
+#[derive(Clone, Copy)]
 pub struct WeighingSums {
     pub finals: u64,
     pub tares: u64,
@@ -114,8 +114,8 @@ pub fn catch(
     n: usize,
     acetone: Acetone,
 ) -> i64
-    requires weighings_ok { WeighingsOk weighings n }
-    requires acetone_ok { AcetoneOk acetone }
+    requires weighings { WeighingsOk weighings n }
+    requires acetone { AcetoneOk acetone }
     ensures { IsCatch (catch weighings n acetone) result }
 {
     let weighed = weighing_sums(weighings, n);

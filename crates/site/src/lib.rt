@@ -27,7 +27,6 @@ const FAR_NEXT: u64 = 2;
 
 // The least numbers of points: at an undisturbed site above 24 in, otherwise by shape, and short of that by the house rule where
 // there is no figure.
-#[derive(Drop)]
 pub struct LeastPoints;
 
 impl LeastPoints {

@@ -22,11 +22,11 @@ pub fn stack(
     n: usize,
     cp: Value,
 ) -> Stack
-    requires o2_bound { (co2 + o2 ≤ greatest_with_co2) × (least_barometer ≤ pb) × (pb ≤ greatest_barometer) }
-    requires between { Between 0 100000 moisture }
-    requires pg_value { static_pressure pg ≡ true }
-    requires traverse_ok { TraverseOk points n }
-    requires between_2 { Between least_coefficient greatest_coefficient cp }
+    requires ranges { (co2 + o2 ≤ greatest_with_co2) × (least_barometer ≤ pb) × (pb ≤ greatest_barometer) }
+    requires moisture { Between 0 100000 moisture }
+    requires static_pressure { static_pressure pg ≡ true }
+    requires traverse { TraverseOk points n }
+    requires coefficient { Between least_coefficient greatest_coefficient cp }
     ensures { (result ≡ stack co2 o2 moisture pb pg points n cp) × StackOk result }
 {
     let dry = dry_weight(co2, o2);

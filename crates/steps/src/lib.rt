@@ -14,7 +14,7 @@ use records::Site;
 pub const PLACES: usize = StepCount::GREATEST as usize;
 
 // A step: from that distance on, in hundredths of a diameter, so many points, by shape.
-#[derive(Drop)]
+#[derive(Clone, Copy)]
 pub struct Step {
     pub least: u16,
     pub round: u8,
@@ -23,7 +23,7 @@ pub struct Step {
 
 // A figure: the steps for the distance from the last disturbance, and those for the distance to the next. A place without points
 // holds no step: so are the places behind the last step of a list, and all of them where there is no figure.
-#[derive(Drop)]
+#[derive(Clone, Copy)]
 pub struct Figure {
     pub last: [Step; PLACES],
     pub next: [Step; PLACES],

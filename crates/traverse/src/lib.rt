@@ -17,7 +17,7 @@ use readings::runs::Side;
 pub const MOST_DISTANCES: usize = 98;
 
 // The first `count` distances, 0.001 in, and zeros after them.
-#[derive(Drop)]
+#[derive(Clone, Copy)]
 pub struct Layout {
     pub count: usize,
     pub distances: [u32; MOST_DISTANCES],
