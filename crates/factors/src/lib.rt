@@ -1,5 +1,7 @@
 // What the chosen certificates give the lines: the factor Y, the coefficient Cp and the nozzle's diameters.
 
+#![tactic(auto)]
+
 ghost use Rattle.std.specs.Prelude.{◌≡◌};
 ghost use Rattle.factors.specs.Factor.{factor_moved, lower_if_moved, factor, factor_of, coefficient_of, diameters_of};
 

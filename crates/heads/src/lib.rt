@@ -2,5 +2,7 @@
 // A record's trouble is looked at in order of place, so that the first one met is the answer. Relies on the identities in them, on the
 // numbers and the trouble of fields and on the kinds of reading.
 
+#![tactic(auto)]
+
 pub mod certificate;
 pub mod header;
