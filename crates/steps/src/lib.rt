@@ -1,6 +1,8 @@
 // The steps of a figure, by value: which of them a distance takes, and how many points they ask for.
 // Relies on the diameter of a stack; knows nothing of a file.
 
+#![tactic(auto)]
+
 ghost use Rattle.std.specs.Prelude.{◌≡◌};
 ghost use Rattle.diameters.specs.Diameters.{diameter};
 ghost use Rattle.steps.specs.Steps.{no_figure, reaches, taken, points_for, asked};

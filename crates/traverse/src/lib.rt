@@ -1,6 +1,8 @@
 // Traverse layouts: the distances of all points of a stack, on its diameter or in its cells.
 // Relies on the distance of each point, and on the grids and the ranges of the readings; knows nothing of a job.
 
+#![tactic(auto)]
+
 ghost use Rattle.std.specs.Prelude.{◌≡◌, true};
 ghost use Rattle.distances.specs.Round.{round_fits};
 ghost use Rattle.distances.specs.Rectangle.{rectangle_fits};

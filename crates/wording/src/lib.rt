@@ -1,5 +1,7 @@
 // What each condition of a rule compares, in words for a reviewer. Relies on the writers of `characters`.
 
+#![tactic(auto)]
+
 ghost use Rattle.std.specs.Prelude.{cond};
 ghost use Rattle.characters.specs.Writing.{Room, Wrote};
 ghost use Rattle.wording.specs.Wording.{words_of};
