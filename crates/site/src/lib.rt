@@ -1,6 +1,8 @@
 // Rules 7 to 9: the sampling site, and the least number of points there, by a figure or by the house.
 // A rectangle's diameter is a fraction and is never divided out: both sides of a comparison are cross-multiplied.
 
+#![tactic(auto)]
+
 ghost use Rattle.std.specs.Prelude.{◌≡◌};
 ghost use Rattle.site.specs.Site.{narrow, disturbed, undisturbed, wide, minimum_disturbed, minimum_points, next_allowed, wrong_points};
 
