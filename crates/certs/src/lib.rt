@@ -1,6 +1,8 @@
 // A run's certificates, chosen from those of a job file, each read at its place. Everything above reaches a job's certificates only
 // through `choose`. Relies on the choice between two, and on where certificates stand.
 
+#![tactic(auto)]
+
 ghost use Rattle.std.specs.Prelude.{◌≡◌, ◌≤◌, length};
 ghost use Rattle.opening.specs.Opening.{version_of};
 ghost use Rattle.heads.specs.Values.{certificate_place, certificate_of};
