@@ -1,6 +1,8 @@
 // Lines 16 to 20: the nozzle, the percent isokinetic, the catch and the concentration. Each is promised to be its equation
 // of docs/RULES.md and to lie in a range; a line relies on the promises of the lines that it names and on nothing inside them.
 
+#![tactic(auto)]
+
 pub mod group;
 
 ghost use Rattle.std.specs.Prelude.{◌≤◌};

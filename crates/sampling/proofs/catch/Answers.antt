@@ -1,5 +1,4 @@
 -- Line 19. The two sums and the deduction, subtracted as signed numbers.
-use borrow.Author.Rules.{rules}
 use Prim.Native.Nat.{ℕ, ◌+◌, ◌≤◌}
 use mathlib.Core.Path.{◌≡◌, ◌∙◌, ap₂, subst⁻¹}
 use mathlib.Core.List.{List}
@@ -15,8 +14,7 @@ use Rattle.sampling.specs.declared.WeighingSums.{WeighingSums}
 use Rattle.sampling.specs.Promise.{AreWeighingSums, IsCatch}
 use Rattle.sampling.specs.Sampling.{deduction, catch}
 use Rattle.sampling.proofs.Difference.{difference, catch_ok, catch_fits}
-use Rattle.sampling.proofs.catch.Statement.{statement}
-use Rattle.sampling.proofs.catch.Tie as tie
+use Rattle.sampling.proofs.catch.Goals as goal
 
 fits : (a b : ℕ) → a ≤ 32000000 → b ≤ 32000099 → SFits w64 (to_z w64 a -ℤ to_z w64 b)
 fits a b ha hb = subst⁻¹ (SFits w64) (difference a b (omega arith) (omega arith)) (catch_fits _ (catch_ok a b ha hb))
@@ -34,39 +32,12 @@ is-catch weighings n acetone s d sums id =
       range = rw back (catch_ok _ _ finals.high small);
     }
 
-weighing-sums-requires : tie.Need-weighing-sums-requires
-weighing-sums-requires c κs = search rules
-
-deduction-requires : tie.Need-deduction-requires
-deduction-requires c κs = search rules
-
-add-taken : tie.Need-overflow-add-taken
-add-taken c = search rules
-
-cast-result : tie.Need-overflow-cast-result
-cast-result c = search rules
-
-cast-result-2 : tie.Need-overflow-cast-result-2
-cast-result-2 c = search rules
-
-sub-result : tie.Need-overflow-sub-result
-sub-result c =
-    let sums = c.before.before.before.weighing-sums.ensures in
-    let taken : c.before.before.before.weighing-sums.result.tares + c.before.before.deduction.result ≤ 32000099 =
-    omega (arith, sums.tares.high, c.before.before.deduction.ensures.high) in
+pub overflow_sub-result : goal.overflow_sub-result
+overflow_sub-result c =
+    let sums = c.weighing_sums-weighed.ensures in
+    let taken : c.weighing_sums-weighed.result.tares + c.deduction.result ≤ 32000099 =
+    omega (arith, sums.tares.high, c.deduction.ensures.high) in
     fits _ _ sums.finals.high taken
 
-returns : tie.Need-returns
-returns c = is-catch _ _ _ _ _ c.before.before.before.weighing-sums.ensures c.before.before.deduction.ensures
-
-pub catch-spec : {M : Type 1} → statement M
-catch-spec =
-    tie.close
-    (tie.spec
-    weighing-sums-requires
-    deduction-requires
-    add-taken
-    cast-result
-    cast-result-2
-    sub-result
-    returns)
+pub returns : goal.returns
+returns c = is-catch _ _ _ _ _ c.weighing_sums-weighed.ensures c.deduction.ensures
