@@ -1,6 +1,8 @@
 // The calls for traverse layouts: each asks nothing of its caller, and answers a refusal or writes the distances.
 // Relies on the distances that `traverse` promises and on the writers of `output`.
 
+#![tactic(auto)]
+
 ghost use Rattle.std.specs.Prelude.{◌≡◌, ◌*◌, ◌≤◌, length, take};
 ghost use Rattle.traverse.specs.Layout.{most_distances};
 ghost use Rattle.output.specs.Splice.{spliced};

@@ -1,6 +1,8 @@
 // The parts of a run in a job file, points, segments and weighings: what each holds, the trouble met in it, and the run that
 // they make up with its header. Relies on the header's record, on the numbers and the trouble of fields and on the kinds of reading.
 
+#![tactic(auto)]
+
 pub mod point;
 pub mod segment;
 pub mod weighing;
