@@ -1,6 +1,8 @@
 // The certificate days behind a finding: on which sides of the run's day its rule uses certificates, and the nearest day there.
 // Relies on the choice of a certificate on either side.
 
+#![tactic(auto)]
+
 ghost use Rattle.std.specs.Prelude.{◌≡◌, true, false, ◌≤◌, length};
 ghost use Rattle.opening.specs.Opening.{version_of};
 ghost use Rattle.heads.specs.Values.{certificate_place, certificate_of};

@@ -2,6 +2,8 @@
 // Completeness is by field: a field that the file cuts off is in trouble where the file ends, after every field before it.
 // Relies on the numbers and the trouble of fields, on the kinds of reading and on a figure's steps.
 
+#![tactic(auto)]
+
 mod bytes;
 mod lists;
 
