@@ -1,6 +1,8 @@
 // What each rule goes by, one by one, but for those about the site. Relies on the chosen certificates and on what each line is promised to be.
 // No rule takes a run or an array.
 
+#![tactic(auto)]
+
 pub mod certificates;
 pub mod field;
 pub mod sheet;

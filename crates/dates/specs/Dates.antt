@@ -48,9 +48,9 @@ day_of (Found c) = On c.day
 
 -- the days of a kind, from what was found on or before the run's day and later
 unfoldable pub sides_of : Use → Lookup → Lookup → Sides
-sides_of Neither before after = record { before = Unused; after = Unused }
-sides_of Before before after = record { before = day_of before; after = Unused }
-sides_of Both before after = record { before = day_of before; after = day_of after }
+sides_of Neither b a = record { before = Unused; after = Unused }
+sides_of Before b a = record { before = day_of b; after = Unused }
+sides_of Both b a = record { before = day_of b; after = day_of a }
 
 -- The days that a rule uses, of a run among the first n certificates of a job of that version
 unfoldable pub days_of : Version → (ℕ → Certificate) → ℕ → RunHeader → ℕ → Days

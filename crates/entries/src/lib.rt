@@ -1,6 +1,8 @@
 // The certificates of a job file together: each in itself, and none that repeats an earlier one.
 // Relies on what a certificate holds and on the trouble in it.
 
+#![tactic(auto)]
+
 ghost use Rattle.std.specs.Prelude.{◌≡◌, ◌<◌, ◌≤◌, length};
 ghost use Rattle.readings.specs.Ranges.{greatest_certificate_count};
 ghost use Rattle.fields.specs.Trouble.{up_to};

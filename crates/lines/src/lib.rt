@@ -1,6 +1,8 @@
 // The twenty lines of a run together, and the sheet that they are written on. Each group of lines is a crate below with its
 // own promises; nothing here is arithmetic.
 
+#![tactic(auto)]
+
 pub mod sheets;
 
 use metering::Metering;
