@@ -87,16 +87,16 @@ module _ (fig : Figure) (s : List ℕ) (k rule place : ℕ) where
   beyond h = unbroken (rw (either_silent _ _ (beyond_table _ _ rule h)))
 
   module _ {done : Reduced} (is : done ≡ judged_run (Why rule place) fig s k) where
-    kept : done.ground ≡ if_broken ground
+    kept : done.basis ≡ if_broken ground
     unfolding judged_run ground_for
-    kept = ap (λ (r : Reduced). r.ground) is
+    kept = ap (λ (r : Reduced). r.basis) is
 
     -- nothing was kept, and the run does not have the finding
-    pub no_finding_lem : done.ground ≡ Silent → NoFinding ≡ explained_run fig s k rule place
+    pub no_finding_lem : done.basis ≡ Silent → NoFinding ≡ explained_run fig s k rule place
     no_finding_lem none = unbroken (kept_none ground (sym kept ∙ none))
 
     -- something was, and that is what explains it
-    pub has_finding : (done.ground ≡ Silent → ⊥) → {e : Explanation} → e ≡ explanation_by done.ground (version_of s) (certificate_of s) (certificate_count_of s) (run_of s k) rule place → ◌≡◌ {A = Explained} (Because e) (explained_run fig s k rule place)
+    pub has_finding : (done.basis ≡ Silent → ⊥) → {e : Explanation} → e ≡ explanation_by done.basis (version_of s) (certificate_of s) (certificate_count_of s) (run_of s k) rule place → ◌≡◌ {A = Explained} (Because e) (explained_run fig s k rule place)
     unfolding explained_run explained explanation chosen_in
     has_finding some ee =
         let broke : broken ground ≡ true = kept_some ground (λ none. some (kept ∙ none)) in
@@ -108,6 +108,6 @@ unfolding run_at
 header_is {s} {j = j} {k = k} ok ev et eh = eh ∙ rw (ev, et, start_of s j ok.job k ok.inside)
 
 -- A finding explained by a ground, from what is read and chosen
-pub put_together : {s t : List ℕ} {v : Version} {j : Job} {k : ℕ} {h : RunHeader} {class : ℕ} {days : Days} (g : Ground) (rule place : ℕ) → ClearRun s j k → v ≡ version_of s → t ≡ drop (get_or j.starts k 0) s → h ≡ header v t → class ≡ class_of v rule → days ≡ days_of v (certificate_of s) j.certificates h rule → ◌≡◌ {A = Explanation} (record { finding = record { rule = rule; class = class; place = place }; round = is_round h.site; ground = g; days = days }) (explanation_by g (version_of s) (certificate_of s) (certificate_count_of s) (run_of s k) rule place)
+pub put_together : {s t : List ℕ} {v : Version} {j : Job} {k : ℕ} {h : RunHeader} {class : ℕ} {days : Days} (g : Ground) (rule place : ℕ) → ClearRun s j k → v ≡ version_of s → t ≡ drop (get_or j.starts k 0) s → h ≡ header v t → class ≡ class_of v rule → days ≡ days_of v (certificate_of s) j.certificates h rule → ◌≡◌ {A = Explanation} (record { finding = record { rule = rule; class = class; place = place }; round = is_round h.site; basis = g; days = days }) (explanation_by g (version_of s) (certificate_of s) (certificate_count_of s) (run_of s k) rule place)
 put_together {s} {j = j} g rule place ok ev et eh ec ed =
     rw (ed, ec, header_is ok ev et eh, ev, count_of_certificates s j ok.job)

@@ -27,11 +27,11 @@ ground_for v fig r ch rule place = ground_at fig r ch (lines_for v r ch) rule pl
 
 -- why a run has a finding by that ground, with the first n certificates, in a job of that version
 abbrev pub explanation_by : Ground → Version → (ℕ → Certificate) → ℕ → Run → ℕ → ℕ → Explanation
-explanation_by ground v f n r rule place =
+explanation_by basis v f n r rule place =
     record {
       finding = record { rule = rule; class = class_of v rule; place = place };
       round = is_round r.header.site;
-      ground = ground;
+      basis = basis;
       days = days_of v f n r.header rule;
     }
 

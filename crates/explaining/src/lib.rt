@@ -23,7 +23,7 @@ use steps::Figure;
 pub struct Explanation {
     pub finding: Finding,
     pub round: bool,
-    pub ground: Ground,
+    pub basis: Ground,
     pub days: Days,
 }
 
@@ -36,9 +36,9 @@ pub enum Explained {
 }
 
 // Why run k of a job without trouble has the finding of that rule at that place, by the ground that its rule goes by there.
-fn explanation_by(ground: Ground, s: &[u8], job: Job, k: usize, rule: u8, place: u16) -> Explanation
+fn explanation_by(basis: Ground, s: &[u8], job: Job, k: usize, rule: u8, place: u16) -> Explanation
     requires { ClearRun s.now job k }
-    ensures { result ≡ explanation_by ground (version_of s.now) (certificate_of s.now) (certificate_count_of s.now) (run_of s.now k) rule place }
+    ensures { result ≡ explanation_by basis (version_of s.now) (certificate_of s.now) (certificate_count_of s.now) (run_of s.now k) rule place }
 {
     let v = opening::version(s);
     let starts = job.starts;
@@ -51,7 +51,7 @@ fn explanation_by(ground: Ground, s: &[u8], job: Job, k: usize, rule: u8, place:
     Explanation {
         finding: finding,
         round: header.site.shape == Shape::ROUND,
-        ground: ground,
+        basis,
         days: dates::days_of(s, v, job.certificates, header, rule),
     }
 }
@@ -69,7 +69,7 @@ pub fn explain_run(s: &[u8], job: Job, figure: Figure, k: usize, rule: u16, plac
     }
     let number = rule as u8;
     let reduced = reduce(s, job, figure, k, Sought::Why(number, place));
-    let ground = reduced.ground;
+    let ground = reduced.basis;
     if let Ground::Silent = ground {
         return Explained::NoFinding;
     }

@@ -63,6 +63,6 @@ pub written_short : (form : Form) (e : Explanation) → length (written form e) 
 unfolding written shown
 written_short form e =
     let head = head_in form e in
-    let told = conditions_in form e.finding.rule e.round (shown e.ground) in
-    let few : length (shown e.ground) ≤ 2 = omega (arith, shown_few (conditions e.ground), at_most_two e.ground) in
-    omega (arith, length-append head told, length-append (head ++ told) (days_in form e.days), head_short form e, few, conditions_short form e.finding.rule e.round (shown e.ground), days_short form e.days)
+    let told = conditions_in form e.finding.rule e.round (shown e.basis) in
+    let few : length (shown e.basis) ≤ 2 = omega (arith, shown_few (conditions e.basis), at_most_two e.basis) in
+    omega (arith, length-append head told, length-append (head ++ told) (days_in form e.days), head_short form e, few, conditions_short form e.finding.rule e.round (shown e.basis), days_short form e.days)

@@ -25,4 +25,4 @@ days_in form d = sides_in form meter d.meter ++ sides_in form pitot d.pitot ++ s
 -- An explanation
 unfoldable pub written : Form → Explanation → List ℕ
 written form e =
-    head_in form e ++ conditions_in form e.finding.rule e.round (shown e.ground) ++ days_in form e.days
+    head_in form e ++ conditions_in form e.finding.rule e.round (shown e.basis) ++ days_in form e.days

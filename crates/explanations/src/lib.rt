@@ -104,7 +104,7 @@ pub fn put_explanation(form: Form, out: &mut [u8], e: Explanation) -> usize
     requires { Room out.old 0 (written form e) }
     ensures { Wrote out.old 0 (written form e) out.new result }
 {
-    let ground = e.ground;
+    let ground = e.basis;
     let days = e.days;
     let a = put_head(form, out, 0, e);
     let b = put_ground(form, out, a, e.finding.rule, e.round, ground);

@@ -67,4 +67,4 @@ ground_kept (Why rule place) fig r ch l = if_broken (ground_at fig r ch l rule p
 
 -- What the walk over the rules comes to
 abbrev pub walked : Sought → Version → Figure → Run → Chosen → Lines → Walked
-walked sought v fig r ch l = record { findings = listed (list_for sought v fig r ch l); ground = ground_kept sought fig r ch l }
+walked sought v fig r ch l = record { findings = listed (list_for sought v fig r ch l); basis = ground_kept sought fig r ch l }

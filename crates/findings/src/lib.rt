@@ -85,7 +85,7 @@ impl Sought {
 #[derive(Clone, Copy)]
 pub struct Walked {
     pub findings: Findings,
-    pub ground: Ground,
+    pub basis: Ground,
 }
 
 // What the rules may see of a run beside the part that each looks at.
@@ -168,7 +168,7 @@ pub fn find(
                     found.count = count;
                     return Walked {
                         findings: found,
-                        ground: ground,
+                        basis: ground,
                     };
                 }
                 found.list[count] = finding;
@@ -181,7 +181,7 @@ pub fn find(
     found.count = count;
     Walked {
         findings: found,
-        ground: Ground::Silent,
+        basis: Ground::Silent,
     }
 }
 

@@ -12,7 +12,7 @@ use Rattle.forms.specs.declared.Form.TheVariants.{Bytes, Text}
 
 -- the head: how many conditions and how many certificate days follow, or the finding's line
 unfoldable pub head_in : Form → Explanation → List ℕ
-head_in Bytes e = length (shown e.ground) ∷ entries e.days ∷ []
+head_in Bytes e = length (shown e.basis) ∷ entries e.days ∷ []
 head_in Text e = finding_text e.finding
 
 -- a condition

@@ -24,7 +24,7 @@ pub fn put_head(form: Form, out: &mut [u8], at: usize, e: Explanation) -> usize
     requires { Room out.old at (head_in form e) }
     ensures { Wrote out.old at (head_in form e) out.new result }
 {
-    let ground = e.ground;
+    let ground = e.basis;
     let days = e.days;
     let finding = e.finding;
     match form {

@@ -1,6 +1,8 @@
 // The walk over a whole job file, from the front to the first trouble met or to the end.
 // Holds no heap and copies no record: a job is its counts and the place of each run. Relies on the records of parts.
 
+#![tactic(auto)]
+
 mod runs;
 
 ghost use Rattle.std.specs.Prelude.{◌≡◌};

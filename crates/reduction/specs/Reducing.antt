@@ -39,7 +39,7 @@ judged sought v fig r ch =
       accepted = accepted (found_for sought v fig r ch);
       sheet = sheet (lines_for v r ch);
       findings = listed (found_for sought v fig r ch);
-      ground = ground_kept sought fig r ch (lines_for v r ch);
+      basis = ground_kept sought fig r ch (lines_for v r ch);
     }
 
 -- the same with all of its findings

@@ -27,7 +27,7 @@ pub struct Reduced {
     pub accepted: bool,
     pub sheet: Sheet,
     pub findings: Findings,
-    pub ground: Ground,
+    pub basis: Ground,
 }
 
 // What a search for a run by its number answers.
@@ -51,13 +51,13 @@ pub fn work(s: &[u8], v: Version, figure: Figure, count: usize, run: Run, sought
     let l = sheets::lines(run, y, cp, nozzle);
     let walked = findings::find(v, figure, run, chosen, l, sought);
     let found = walked.findings;
-    let ground = walked.ground;
+    let ground = walked.basis;
     Reduced {
         number: run.header.number,
         accepted: findings::accepted(found),
         sheet: sheets::sheet(l),
         findings: found,
-        ground: ground,
+        basis: ground,
     }
 }
 

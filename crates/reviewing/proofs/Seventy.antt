@@ -72,12 +72,12 @@ days_bytes d =
     let c = sides_in Bytes nozzle d.nozzle in
     omega (arith, length-append a b, length-append (a ++ b) c, sides_bytes meter d.meter, sides_bytes pitot d.pitot, sides_bytes nozzle d.nozzle)
 
-written_bytes : (e : Explanation) → length (written Bytes e) ≡ 2 + 34 * length (shown e.ground) + 5 * entries e.days
+written_bytes : (e : Explanation) → length (written Bytes e) ≡ 2 + 34 * length (shown e.basis) + 5 * entries e.days
 unfolding written head_in
 written_bytes e =
     let head = head_in Bytes e in
-    let told = conditions_in Bytes e.finding.rule e.round (shown e.ground) in
-    omega (arith, length-append head told, length-append (head ++ told) (days_in Bytes e.days), conditions_bytes e.finding.rule e.round (shown e.ground), days_bytes e.days)
+    let told = conditions_in Bytes e.finding.rule e.round (shown e.basis) in
+    omega (arith, length-append head told, length-append (head ++ told) (days_in Bytes e.days), conditions_bytes e.finding.rule e.round (shown e.basis), days_bytes e.days)
 
 -- How many certificate days a rule uses
 

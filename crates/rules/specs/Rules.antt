@@ -14,7 +14,7 @@ use Rattle.rules.specs.declared.Beside.{Beside}
 infixl 50 ◌goes_by◌
 -- a rule: its number, and what it goes by
 abbrev pub ◌goes_by◌ : ℕ → Ground → Numbered Ground
-number goes_by ground = record { number = number; row = ground }
+number goes_by g = record { number = number; row = g }
 
 -- The table: what each rule goes by, of its part and of what stands beside it; the number 13 is given to none
 unfoldable pub table : Part → Beside → List (Numbered Ground)

@@ -1,6 +1,8 @@
 // The table of the rules: what each goes by, from the part that it looks at and from what it may see beside it.
 // Relies on the conditions.
 
+#![tactic(auto)]
+
 ghost use Rattle.std.specs.Prelude.{◌≡◌};
 ghost use Rattle.rules.specs.Rules.{ground_of, Judgeable};
 

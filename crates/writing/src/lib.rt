@@ -1,5 +1,7 @@
 // Lines and findings as bytes: one of each, for any sheet, and all of a run's. Relies on the writers of `output`.
 
+#![tactic(auto)]
+
 ghost use Rattle.std.specs.Prelude.{◌≡◌, ◌+◌, ◌*◌, ◌≤◌, length};
 ghost use Rattle.output.specs.Splice.{spliced};
 ghost use Rattle.findings.specs.Listing.{most_findings};

@@ -10,15 +10,15 @@ use Rattle.explanations.proofs.put_explanation.Statement.{statement}
 use Rattle.explanations.proofs.put_explanation.Tie as tie
 
 -- room for the parts, and for the first of them
-room-for-three : (c : tie.Start) → Room c.args.out.now (0) (head_in c.args.form c.args.e ++ conditions_in c.args.form c.args.e.finding.rule c.args.e.round (shown c.args.e.ground) ++ days_in c.args.form c.args.e.days)
+room-for-three : (c : tie.Start) → Room c.args.out.now (0) (head_in c.args.form c.args.e ++ conditions_in c.args.form c.args.e.finding.rule c.args.e.round (shown c.args.e.basis) ++ days_in c.args.form c.args.e.days)
 unfolding written
 room-for-three c = c.requires
 
-room-for-two : (c : tie.Start) → Room c.args.out.now (0) (head_in c.args.form c.args.e ++ conditions_in c.args.form c.args.e.finding.rule c.args.e.round (shown c.args.e.ground))
-room-for-two c = room_front (head_in c.args.form c.args.e ++ conditions_in c.args.form c.args.e.finding.rule c.args.e.round (shown c.args.e.ground)) (days_in c.args.form c.args.e.days) (room-for-three c)
+room-for-two : (c : tie.Start) → Room c.args.out.now (0) (head_in c.args.form c.args.e ++ conditions_in c.args.form c.args.e.finding.rule c.args.e.round (shown c.args.e.basis))
+room-for-two c = room_front (head_in c.args.form c.args.e ++ conditions_in c.args.form c.args.e.finding.rule c.args.e.round (shown c.args.e.basis)) (days_in c.args.form c.args.e.days) (room-for-three c)
 
 room-for-one : (c : tie.Start) → Room c.args.out.now (0) (head_in c.args.form c.args.e)
-room-for-one c = room_front (head_in c.args.form c.args.e) (conditions_in c.args.form c.args.e.finding.rule c.args.e.round (shown c.args.e.ground)) (room-for-two c)
+room-for-one c = room_front (head_in c.args.form c.args.e) (conditions_in c.args.form c.args.e.finding.rule c.args.e.round (shown c.args.e.basis)) (room-for-two c)
 
 put-head-requires : tie.Need-put-head-requires
 put-head-requires c κs = room-for-one c.before.before.before

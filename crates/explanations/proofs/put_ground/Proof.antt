@@ -22,7 +22,7 @@ enum-known-ground : tie.Need-enum-known-ground
 enum-known-ground c = search rules
 
 put-if-broken-requires : tie.Need-put-if-broken-requires
-put-if-broken-requires c κs = rw (compared_text c.before.before.before.before.before.args.form c.before.before.before.before.before.args.rule c.before.before.before.before.before.args.round c.before.before.ground.given.1) at c.before.before.before.before.before.requires
+put-if-broken-requires c κs = rw (compared_text c.before.before.before.before.before.args.form c.before.before.before.before.before.args.rule c.before.before.before.before.before.args.round c.before.before.basis.given.1) at c.before.before.before.before.before.requires
 
 enum-known-ground-2 : tie.Need-enum-known-ground-2
 enum-known-ground-2 c = search rules
@@ -73,7 +73,7 @@ same_length : tie.Need-same-length
 same_length c = search rules
 
 returns-5 : tie.Need-returns-5
-returns-5 c = rw (compared_text c.before.before.before.before.before.before.before.before.args.form c.before.before.before.before.before.before.before.before.args.rule c.before.before.before.before.before.before.before.before.args.round c.before.before.before.before.before.ground.given.1) c.before.before.put-if-broken.ensures
+returns-5 c = rw (compared_text c.before.before.before.before.before.before.before.before.args.form c.before.before.before.before.before.before.before.before.args.rule c.before.before.before.before.before.before.before.before.args.round c.before.before.before.before.before.basis.given.1) c.before.before.put-if-broken.ensures
 
 same-length-2 : tie.Need-same-length-2
 same-length-2 c = search rules
