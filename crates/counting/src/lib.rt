@@ -1,6 +1,8 @@
 // The calls that count a job's runs, with their answers as enums: how many there are, and the number of each.
 // Relies on the reader alone.
 
+#![tactic(auto)]
+
 ghost use Rattle.std.specs.Prelude.{◌≡◌};
 ghost use Rattle.counting.specs.Counting.{count_answer, number_answer};
 
