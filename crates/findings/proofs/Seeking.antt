@@ -97,17 +97,17 @@ module _ (v : Version) (fig : Figure) (r : Run) (ch : Chosen) (l : Lines) where
   broken_beside beside rule i = broken (ground_of (part_of r rule i) beside rule)
 
   -- what is entered, as it is handed over beside a ground
-  handed_over : {fs : List Finding} {n : ℕ} {xs : List Finding} {g : Ground} → Entered fs n xs → ◌≡◌ {A = Walked} (record { findings = record { count = n; list = xs }; ground = g }) (record { findings = listed fs; ground = g })
-  handed_over {g = g} entered = ap (λ (found : Findings). record { findings = found; ground = g }) (entered_listed entered)
+  handed_over : {fs : List Finding} {n : ℕ} {xs : List Finding} {g : Ground} → Entered fs n xs → ◌≡◌ {A = Walked} (record { findings = record { count = n; list = xs }; basis = g }) (record { findings = listed fs; basis = g })
+  handed_over {g = g} entered = ap (λ (found : Findings). record { findings = found; basis = g }) (entered_listed entered)
 
-  met_why : (rule i : ℕ) {n : ℕ} {xs : List Finding} {g : Ground} → i < places_of r.header.counts rule → g ≡ ground_of (part_of r rule i) (beside_of fig r ch l) rule → broken g ≡ true → Entered (rule_findings v (is_broken rule) rule i) n xs → ◌≡◌ {A = Walked} (record { findings = record { count = n; list = xs }; ground = g }) (walked (Why rule (place_at rule i)) v fig r ch l)
+  met_why : (rule i : ℕ) {n : ℕ} {xs : List Finding} {g : Ground} → i < places_of r.header.counts rule → g ≡ ground_of (part_of r rule i) (beside_of fig r ch l) rule → broken g ≡ true → Entered (rule_findings v (is_broken rule) rule i) n xs → ◌≡◌ {A = Walked} (record { findings = record { count = n; list = xs }; basis = g }) (walked (Why rule (place_at rule i)) v fig r ch l)
   met_why rule i inside is broke entered =
       let at : index_of (place_at rule i) ≡ i = index_of_place r.header.counts rule i inside in
       let same = is ∙ rw at at (spoken fig r ch l rule (place_at rule i) (rw at inside) (rw at refl)) in
       rw (← same, broke, at) (handed_over entered)
 
   -- The search, by what stands beside the rules, ends at the finding that is sought
-  pub met : (sought : Sought) (b k i : ℕ) {beside : Beside} {place n : ℕ} {xs : List Finding} {g : Ground} → beside ≡ beside_of fig r ch l → b ≡ before_of sought → place ≡ place_of sought → b ≤ k → k < last_of sought → i < places_of r.header.counts (k + 1) → i ≤ 255 → place_at (k + 1) i ≡ place → g ≡ ground_of (part_of r (k + 1) i) beside (k + 1) → broken g ≡ true → Entered (findings_to v (broken_beside beside) (places_from b r.header.counts) k ++ rule_findings v (broken_beside beside (k + 1)) (k + 1) i) n xs → ◌≡◌ {A = Walked} (record { findings = record { count = n; list = xs }; ground = g }) (walked sought v fig r ch l)
+  pub met : (sought : Sought) (b k i : ℕ) {beside : Beside} {place n : ℕ} {xs : List Finding} {g : Ground} → beside ≡ beside_of fig r ch l → b ≡ before_of sought → place ≡ place_of sought → b ≤ k → k < last_of sought → i < places_of r.header.counts (k + 1) → i ≤ 255 → place_at (k + 1) i ≡ place → g ≡ ground_of (part_of r (k + 1) i) beside (k + 1) → broken g ≡ true → Entered (findings_to v (broken_beside beside) (places_from b r.header.counts) k ++ rule_findings v (broken_beside beside (k + 1)) (k + 1) i) n xs → ◌≡◌ {A = Walked} (record { findings = record { count = n; list = xs }; basis = g }) (walked sought v fig r ch l)
   unfolding broken_at
   met All b k i by eb ep above below inside few there is broke entered =
       absurd (omega (arith, few, index_of_place r.header.counts (k + 1) i inside, there, ep))
@@ -116,7 +116,7 @@ module _ (v : Version) (fig : Figure) (r : Run) (ch : Chosen) (l : Lines) where
       let before : k ≤ b = omega (arith, eb, below) in
       rw (this, ← ep, ← there) (met_why (k + 1) i inside (rw by at is) broke (rw (by, nothing_before v is_broken r.header.counts b k before) at entered))
 
-  not_met_why : (b place : ℕ) {n : ℕ} {xs : List Finding} → PassedTo is_broken r.header.counts place b (b + 1) → Entered (findings_to v is_broken (places_from b r.header.counts) (b + 1)) n xs → ◌≡◌ {A = Walked} (record { findings = record { count = n; list = xs }; ground = Silent }) (walked (Why (b + 1) place) v fig r ch l)
+  not_met_why : (b place : ℕ) {n : ℕ} {xs : List Finding} → PassedTo is_broken r.header.counts place b (b + 1) → Entered (findings_to v is_broken (places_from b r.header.counts) (b + 1)) n xs → ◌≡◌ {A = Walked} (record { findings = record { count = n; list = xs }; basis = Silent }) (walked (Why (b + 1) place) v fig r ch l)
   not_met_why b place passed entered = rw stands (handed_over (rw (of_one_rule v is_broken r.header.counts b) at entered))
     where
       stands : broken (ground_at fig r ch l (b + 1) place) ≡ false
@@ -127,7 +127,7 @@ module _ (v : Version) (fig : Figure) (r : Run) (ch : Chosen) (l : Lines) where
           go false e = e
 
   -- or behind the last rule
-  pub not_met : (sought : Sought) (b : ℕ) {beside : Beside} {place n : ℕ} {xs : List Finding} → beside ≡ beside_of fig r ch l → b ≡ before_of sought → place ≡ place_of sought → before_of sought < last_of sought → PassedTo (broken_beside beside) r.header.counts place b (last_of sought) → Entered (findings_to v (broken_beside beside) (places_from b r.header.counts) (last_of sought)) n xs → ◌≡◌ {A = Walked} (record { findings = record { count = n; list = xs }; ground = Silent }) (walked sought v fig r ch l)
+  pub not_met : (sought : Sought) (b : ℕ) {beside : Beside} {place n : ℕ} {xs : List Finding} → beside ≡ beside_of fig r ch l → b ≡ before_of sought → place ≡ place_of sought → before_of sought < last_of sought → PassedTo (broken_beside beside) r.header.counts place b (last_of sought) → Entered (findings_to v (broken_beside beside) (places_from b r.header.counts) (last_of sought)) n xs → ◌≡◌ {A = Walked} (record { findings = record { count = n; list = xs }; basis = Silent }) (walked sought v fig r ch l)
   unfolding findings broken_at
   not_met All b by eb ep some passed entered =
       handed_over (rw (by, eb, all_from_the_first v is_broken r.header.counts) at entered)

@@ -1,6 +1,8 @@
 // A run's findings: every rule at each of its places, in order, kept where it is broken; and of one finding what its rule goes by.
 // Relies on the table of the rules, on the chosen certificates, on what each line is promised to be, and on a run that is in range.
 
+#![tactic(auto)]
+
 pub mod weighings;
 
 ghost use Rattle.std.specs.Prelude.{◌≡◌, ◌≤◌, take};
