@@ -57,7 +57,7 @@ unfolding findings_for
 same_list All v fig r ch = refl
 same_list (Why rule place) v fig r ch = refl
 
-pub is_judged : (sought : Sought) (v : Version) (fig : Figure) (f : ℕ → Certificate) (n : ℕ) (r : Run) {ch : Chosen} {l : Lines} {done : Walked} {stands : Bool} {written : Sheet} → ch ≡ chosen_for f n r.header → l ≡ lines_for v r ch → done ≡ walked sought v fig r ch l → stands ≡ accepted (take done.findings.count done.findings.list) → written ≡ sheet l → ◌≡◌ {A = Reduced} (record { number = r.header.number; accepted = stands; sheet = written; findings = done.findings; ground = done.basis }) (judged sought v fig r (chosen_for f n r.header))
+pub is_judged : (sought : Sought) (v : Version) (fig : Figure) (f : ℕ → Certificate) (n : ℕ) (r : Run) {ch : Chosen} {l : Lines} {done : Walked} {stands : Bool} {written : Sheet} → ch ≡ chosen_for f n r.header → l ≡ lines_for v r ch → done ≡ walked sought v fig r ch l → stands ≡ accepted (take done.findings.count done.findings.list) → written ≡ sheet l → ◌≡◌ {A = Reduced} (record { number = r.header.number; accepted = stands; sheet = written; findings = done.findings; basis = done.basis }) (judged sought v fig r (chosen_for f n r.header))
 is_judged sought v fig f n r {ch} ec el ed ea ew = rw (ew, ea, ed, listed_count, el, ec, same_list sought v fig r (chosen_for f n r.header))
 
 -- Where all findings are sought, the run is reduced

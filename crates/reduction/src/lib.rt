@@ -1,6 +1,8 @@
 // A run of a job reduced: its certificates are chosen, its sheet worked and its findings listed, or one of them sought.
 // Relies on the reader's promise that what it reads is in range, and on the promises of the lines and the findings.
 
+#![tactic(auto)]
+
 ghost use Rattle.std.specs.Prelude.{◌≡◌};
 ghost use Rattle.opening.specs.Opening.{version_of};
 ghost use Rattle.heads.specs.Values.{certificate_of};
