@@ -1,6 +1,8 @@
 // A finding of a run explained: what its rule goes by at its place, and the certificate days that it uses.
 // Relies on a reduced run, whose list of findings and whose sought ground come from one table.
 
+#![tactic(auto)]
+
 ghost use Rattle.std.specs.Prelude.{◌≡◌};
 ghost use Rattle.opening.specs.Opening.{version_of, certificate_count_of};
 ghost use Rattle.heads.specs.Values.{certificate_of};

@@ -1,6 +1,8 @@
 // A reduced run handed over in two lent buffers, or refused before a byte is written.
 // Relies on the writers of lines and findings; knows nothing of a file.
 
+#![tactic(auto)]
+
 ghost use Rattle.std.specs.Prelude.{◌≡◌, ◌≤◌};
 ghost use Rattle.findings.specs.Listing.{most_findings};
 ghost use Rattle.handing.specs.Handing.{success, Handed};

@@ -1,0 +1,39 @@
+-- Five parts, one after another.
+use mathlib.Core.List.{◌++◌}
+use Rattle.characters.specs.Numbers.{decimal}
+use Rattle.characters.specs.Writing.{Room}
+use Rattle.characters.proofs.Texts.{room_front, room_first, room_second, room_third, room_fourth, room_fifth, wrote_five}
+use Rattle.text.specs.Sheets.{space, newline}
+use Rattle.text.specs.Runs.{class_name, finding_text}
+use Rattle.text.proofs.runs.put_finding.Goals as goal
+use Rattle.text.proofs.runs.put_finding.Goals.{Start}
+
+-- room for the five parts, and for the first four of them
+room : (c : Start) → Room c.args.out.now c.args.at (class_name c.args.f.class ++ decimal c.args.f.rule ++ space ++ decimal c.args.f.place ++ newline)
+unfolding finding_text
+room c =
+    c.requires
+
+pub put_class-a-requires : goal.put_class-a-requires
+put_class-a-requires c = room_first _ _ _ _ ((room_front _ _ (room (goal.at.put_class-a-requires c).Start)))
+
+pub put_decimal-b-requires : goal.put_decimal-b-requires
+put_decimal-b-requires c =
+    room_second _ _ _ _ ((room_front _ _ (room (goal.at.put_decimal-b-requires c).Start))) c.put_class-a.ensures
+
+pub put_word-c-requires : goal.put_word-c-requires
+put_word-c-requires c =
+    room_third _ _ _ _ ((room_front _ _ (room (goal.at.put_word-c-requires c).Start))) c.put_class-a.ensures c.put_decimal-b.ensures
+
+pub put_decimal-d-requires : goal.put_decimal-d-requires
+put_decimal-d-requires c =
+    room_fourth _ _ _ _ ((room_front _ _ (room (goal.at.put_decimal-d-requires c).Start))) c.put_class-a.ensures c.put_decimal-b.ensures c.put_word-c.ensures
+
+pub put_word-requires : goal.put_word-requires
+put_word-requires c =
+    room_fifth _ _ _ _ _ (room (goal.at.put_word-requires c).Start) c.put_class-a.ensures c.put_decimal-b.ensures c.put_word-c.ensures c.put_decimal-d.ensures
+
+pub returns : goal.returns
+unfolding finding_text
+returns c =
+    wrote_five _ _ _ _ _ (room (goal.at.returns c).Start) c.put_class-a.ensures c.put_decimal-b.ensures c.put_word-c.ensures c.put_decimal-d.ensures c.put_word.ensures
