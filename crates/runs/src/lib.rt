@@ -1,6 +1,8 @@
 // The calls for one of a job's runs, by a figure or without one, with their answer as an enum: the run worked and handed over.
 // Relies on the reader, on a run's reduction and on how a reduced run is handed over.
 
+#![tactic(auto)]
+
 ghost use Rattle.std.specs.Prelude.{◌≡◌};
 ghost use Rattle.fields.specs.declared.trouble.Trouble.TheVariants.{Clear};
 ghost use Rattle.steps.specs.Steps.{no_figure};

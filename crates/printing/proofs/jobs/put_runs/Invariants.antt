@@ -1,0 +1,15 @@
+-- The loop writes one run a turn.
+use Prim.Native.Nat.{◌-◌, ◌≤◌}
+use Rattle.reduction.specs.Reducing.{reduced_run}
+use Rattle.output.specs.Bytes.{joined}
+use Rattle.characters.specs.Writing.{Wrote}
+use Rattle.text.specs.Runs.{run_text}
+use Rattle.printing.proofs.jobs.put_runs.Given as goal
+
+abbrev pub invariant-loop-k : goal.invariant-loop-k
+invariant-loop-k l =
+    (l.k ≤ l.runs) × Wrote l.initial.out 0 (joined (λ i. run_text (reduced_run l.figure l.s i)) l.k) l.out l.next
+
+abbrev pub decreases-loop-k : goal.decreases-loop-k
+decreases-loop-k l =
+    l.runs - l.k
