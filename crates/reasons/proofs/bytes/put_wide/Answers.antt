@@ -10,8 +10,7 @@ use Rattle.output.specs.Splice.{spliced}
 use Rattle.output.proofs.Bytes.{length_le}
 use Rattle.output.proofs.Splice.{length_spliced}
 use Rattle.characters.specs.Writing.{Room, Wrote}
-use Rattle.reasons.proofs.bytes.put_wide.Statement.{statement}
-use Rattle.reasons.proofs.bytes.put_wide.Tie as tie
+use Rattle.reasons.proofs.bytes.put_wide.Goals as goal
 
 -- room for a number's bytes
 fits : {old : List ℕ} {at : ℕ} (width n : ℕ) → Room old at (le width n) → at + width ≤ length old
@@ -21,19 +20,14 @@ number-written : {old : List ℕ} {at : ℕ} {out : List ℕ} (width n : ℕ) �
 number-written {old} {at} width n room e =
     record { is = e; after = ap (λ k. at + k) (sym (length_le width n)); kept = ap length e ∙ length_spliced old at (le width n) room.fits }
 
-put-number-requires : tie.Need-put-number-requires
-put-number-requires c κs = fits _ _ c.before.before.requires
+pub put_number-requires : goal.put_number-requires
+put_number-requires c = fits _ _ c.requires
 
-add-result : tie.Need-overflow-add-result
-add-result c =
-    let start = c.before.before.before.before.before in
-    omega (arith, fits _ _ start.requires, start.well-formed.0.0)
+pub overflow_add-result : goal.overflow_add-result
+overflow_add-result c = omega (arith, fits _ _ c.requires, c.well_formed.0.0)
 
-same_length : tie.Need-same-length
-same_length c = search rules
+pub shape_of-out : goal.shape_of-out
+shape_of-out c = search rules
 
-returns : tie.Need-returns
-returns c = number-written _ _ c.before.before.before.before.before.requires c.before.before.put-number.ensures
-
-pub put-wide-spec : {M : Type 1} → statement M
-put-wide-spec = tie.close (tie.spec put-number-requires add-result same_length returns)
+pub returns : goal.returns
+returns c = number-written _ _ c.requires c.put_number.ensures
