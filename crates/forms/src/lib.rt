@@ -1,6 +1,8 @@
 // The head, a condition and a certificate day of an explanation, each in the form that is asked for.
 // Relies on the writers of conditions and certificate days, on that of a finding's line and on a finding's explanation.
 
+#![tactic(auto)]
+
 ghost use Rattle.dates.specs.declared.Day.TheVariants.{On, NoneSoDated};
 ghost use Rattle.grounds.specs.Showing.{two_numbers, a_quotient, two_signed};
 ghost use Rattle.characters.specs.Writing.{Room, Wrote};
