@@ -1,6 +1,8 @@
 // An explanation written, as bytes or as text: its head, its broken conditions, its certificate days.
 // Relies on how each of them is written in a form, and on a finding's explanation.
 
+#![tactic(auto)]
+
 ghost use Rattle.std.specs.Prelude.{[], ◌∷◌};
 ghost use Rattle.grounds.specs.Comparing.{holds};
 ghost use Rattle.grounds.specs.Showing.{two_numbers, broken_of, ◌broken_if◌, shown};

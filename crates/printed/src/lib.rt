@@ -1,6 +1,8 @@
 // The calls for the text of a job, by a figure or without one, with their answer as an enum.
 // Relies on what is printed of a job, on the reader and on how a word is written.
 
+#![tactic(auto)]
+
 ghost use Rattle.figures.specs.Figures.{read_figure};
 ghost use Rattle.job.specs.Reading.{ClearJob};
 ghost use Rattle.printing.specs.Jobs.{job_text};
