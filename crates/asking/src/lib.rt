@@ -1,6 +1,8 @@
 // The calls for one of a run's findings, explained, by a figure or without one, with their answer as an enum.
 // Relies on the reader, on a finding's explanation, on how it is written and on how a text is handed over.
 
+#![tactic(auto)]
+
 ghost use Rattle.figures.specs.Figures.{read_figure};
 ghost use Rattle.printed.specs.Printing.{HandsOver};
 ghost use Rattle.explanations.specs.Written.{written};
