@@ -1,5 +1,5 @@
 //! Where the measurement starts under the emulator. What Rust does ahead of its
-//! own `main` asks for the memory map, and the kit's emulator fails on that.
+//! own `main` asks for the memory map, and the emulator fails on that.
 
 #![no_main]
 

@@ -27,7 +27,7 @@ fn linked() -> ExitCode {
     println!("cargo:rerun-if-changed={}", archive.display());
     if !archive.is_file() {
         eprintln!(
-            "The proved library is not built: run `rt staticlib leverbonnet` to make {}.",
+            "The proved library is not built: run `scripts/library` to make {}.",
             archive.display()
         );
         return ExitCode::FAILURE;

@@ -2,8 +2,9 @@
 //!
 //! - across the specs of all crates one name has one meaning, and none that the
 //!   kit's libraries give to something else;
-//! - every definition and law serves a contract, a proof of a function, or a
-//!   theorem that a table of docs/PROMISES.md names;
+//! - every definition and law serves a contract, a proof of a function, what
+//!   the tactics of the code are told to use, or a theorem that a table of
+//!   docs/PROMISES.md names;
 //! - every import is used, and no module is imported twice by one file.
 
 mod source;
@@ -13,7 +14,7 @@ use std::fs;
 use std::io;
 use std::path::{Path, PathBuf};
 
-use source::Source;
+use source::{written, Import, Reach, Source};
 
 /// A file of definitions and laws, or of code with its contracts.
 struct File {
@@ -81,18 +82,18 @@ fn theorems(text: &str) -> BTreeSet<String> {
     found
 }
 
-/// A name as it stands where it is used: an operator without the underscores
-/// that keep the places of its arguments.
-fn written(name: &str) -> &str {
-    name.trim_matches('_')
+/// Whether an import is from the kit's libraries: from none of these crates.
+fn is_of_kit(import: &Import, crates: &BTreeSet<String>) -> bool {
+    let mut parts = import.module.split('.');
+    parts.next() != Some("Rattle") || !parts.next().map_or(false, |name| crates.contains(name))
 }
 
 /// One sentence for each name that the specs give to two things.
-fn doubled(root: &Path, read: &[File]) -> Vec<String> {
+fn doubled(root: &Path, read: &[File], crates: &BTreeSet<String>) -> Vec<String> {
     let kit: BTreeSet<&String> = read
         .iter()
         .flat_map(|file| &file.source.imports)
-        .filter(|import| !import.module.starts_with("Rattle·"))
+        .filter(|import| is_of_kit(import, crates))
         .flat_map(|import| &import.names)
         .collect();
     let mut places: BTreeMap<&String, Vec<String>> = BTreeMap::new();
@@ -148,15 +149,15 @@ fn idle(root: &Path, read: &[File], roots: &BTreeSet<String>) -> Vec<String> {
         }
     }
     for (f, file) in read.iter().enumerate() {
-        // The proof of a function stands alone in its file, under its name.
-        if file.path.file_name().map_or(false, |n| n == "Proof.antt") {
-            let proofs = file.source.definitions.iter().enumerate();
-            next.extend(
-                proofs
-                    .filter(|(_, d)| d.name.ends_with("-spec"))
-                    .map(|(d, _)| (f, d)),
-            );
-        }
+        // A proof that walks the code stands alone in its file, under the
+        // function's name.
+        let is_walk = file.path.file_name().map_or(false, |n| n == "Proof.antt");
+        let proofs = file.source.definitions.iter().enumerate();
+        next.extend(
+            proofs
+                .filter(|(_, d)| d.answers || is_walk && d.name.ends_with("_spec"))
+                .map(|(d, _)| (f, d)),
+        );
     }
     while let Some((f, d)) = next.pop() {
         if !serves.insert((f, d)) {
@@ -189,7 +190,8 @@ fn imports(root: &Path, read: &[File]) -> Vec<String> {
     for file in read {
         let mut modules = BTreeSet::new();
         for import in &file.source.imports {
-            if !import.names.is_empty() && !modules.insert(&import.module) {
+            let is_own = import.reach == Reach::File && !import.names.is_empty();
+            if is_own && !modules.insert(&import.module) {
                 found.push(format!(
                     "{} imports `{}` twice.",
                     shown(root, &file.path),
@@ -204,7 +206,9 @@ fn imports(root: &Path, read: &[File]) -> Vec<String> {
             .flat_map(|d| &d.cites)
             .map(String::as_str)
             .collect();
-        for name in file.source.taken() {
+        let kept = file.source.imports.iter();
+        let kept = kept.filter(|import| import.reach != Reach::Others);
+        for name in kept.flat_map(|import| &import.names) {
             if !used.contains(written(name)) {
                 found.push(format!(
                     "`{}` is imported by {} and not used.",
@@ -242,10 +246,14 @@ pub fn complaints(root: &Path) -> io::Result<Vec<String>> {
     // What a contract mentions and its file does not import is a parameter.
     for file in read.iter().filter(|file| file.is_code()) {
         let cited = file.source.definitions.iter().flat_map(|d| &d.cites);
-        let taken: BTreeSet<&String> = file.source.taken().collect();
-        roots.extend(cited.filter(|name| taken.contains(name)).cloned());
+        let taken: BTreeSet<&str> = file.source.taken().map(|name| written(name)).collect();
+        roots.extend(cited.filter(|name| taken.contains(name.as_str())).cloned());
+        roots.extend(file.source.told.iter().cloned());
     }
-    let mut found = doubled(root, &read);
+    let crates: BTreeSet<String> = fs::read_dir(&crates)?
+        .map(|entry| entry.map(|e| e.file_name().to_string_lossy().into_owned()))
+        .collect::<io::Result<_>>()?;
+    let mut found = doubled(root, &read, &crates);
     found.extend(idle(root, &read, &roots));
     found.extend(imports(root, &read));
     Ok(found)

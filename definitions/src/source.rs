@@ -10,6 +10,9 @@ pub struct Definition {
     pub name: String,
     pub cases: Vec<String>,
     pub cites: BTreeSet<String>,
+    /// Whether it is what Rattle asks for under its name: an invariant, a
+    /// measure, or the answer to a goal.
+    pub answers: bool,
 }
 
 /// What an import line takes from a module, but for brackets, which are no name.
@@ -17,12 +20,43 @@ pub struct Definition {
 pub struct Import {
     pub module: String,
     pub names: Vec<String>,
+    pub reach: Reach,
+}
+
+/// For whom an import takes its names: for its file, for a block of code in
+/// it, or for the files that import this one.
+#[derive(Clone, Copy, Debug, PartialEq, Eq)]
+pub enum Reach {
+    File,
+    Block,
+    Others,
 }
 
 #[derive(Debug, Default)]
 pub struct Source {
     pub imports: Vec<Import>,
     pub definitions: Vec<Definition>,
+    /// What the tactics of the code are told to use, by name.
+    pub told: Vec<String>,
+}
+
+/// The modules in which Rattle states what a function's proof owes.
+const OWED: [&str; 2] = [".Goals", ".Given"];
+
+/// The places of an operator's arguments.
+const HOLE: char = '◌';
+
+/// The signs that stand round a name and are no part of one.
+const SIGNS: &str = "()[]{};,.λ«»";
+
+/// A name as it stands where it is used: of an operator the first sign between
+/// the places of its arguments, and nothing of brackets.
+pub fn written(name: &str) -> &str {
+    let mut parts = name.split(HOLE).filter(|part| !part.is_empty());
+    parts
+        .next()
+        .filter(|part| !part.chars().all(|c| SIGNS.contains(c)))
+        .unwrap_or_default()
 }
 
 /// The names of a line. A field behind a dot is no name of its own, and a
@@ -37,7 +71,7 @@ fn names(line: &str) -> Vec<String> {
     let mut name = String::new();
     let mut field = false;
     for c in code.chars().chain([' ']) {
-        if c.is_whitespace() || "()[]{};,.λ⌜⌝".contains(c) {
+        if c.is_whitespace() || SIGNS.contains(c) {
             if !name.is_empty() && !field {
                 found.push(name.clone());
             }
@@ -51,8 +85,14 @@ fn names(line: &str) -> Vec<String> {
 }
 
 fn import(line: &str) -> Option<Import> {
-    let line = line.strip_prefix("ghost ").unwrap_or(line);
-    let words = line.strip_prefix("use ")?.trim_end_matches(';');
+    let inner = line.trim_start();
+    let rest = inner.strip_prefix("ghost ").unwrap_or(inner);
+    let (rest, reach) = match rest.strip_prefix("pub ") {
+        Some(rest) => (rest, Reach::Others),
+        None if inner.len() < line.len() => (rest, Reach::Block),
+        None => (rest, Reach::File),
+    };
+    let words = rest.strip_prefix("use ")?.trim_end_matches(';');
     let (module, list) = match words.find(".{") {
         Some(at) => (&words[..at], words[at + 2..].trim_end_matches('}')),
         None => (words, ""),
@@ -63,9 +103,19 @@ fn import(line: &str) -> Option<Import> {
         names: list
             .split(',')
             .map(taken)
-            .filter(|name| !names(name).is_empty())
+            .filter(|name| !written(name).is_empty())
             .collect(),
+        reach,
     })
+}
+
+/// The name that an import line gives to what a function's proof owes, as
+/// `goal` in `use Rattle.a.proofs.f.Goals as goal`.
+fn owed(import: &Import) -> Option<&str> {
+    let (module, name) = import.module.split_once(" as ")?;
+    OWED.iter()
+        .any(|end| module.ends_with(end))
+        .then(|| name.trim())
 }
 
 /// What a line begins to define: its name, and the kind where it is a record
@@ -75,7 +125,7 @@ fn begun(line: &str) -> Option<(String, &str)> {
     for word in ["unfoldable ", "abbrev ", "pub "] {
         rest = rest.strip_prefix(word).unwrap_or(rest);
     }
-    for kind in ["record ", "data "] {
+    for kind in ["record ", "data ", "ruleset "] {
         if let Some(typed) = rest.strip_prefix(kind) {
             return Some((names(typed).into_iter().next()?, kind.trim_end()));
         }
@@ -83,6 +133,71 @@ fn begun(line: &str) -> Option<(String, &str)> {
     let mut words = rest.split_whitespace();
     let name = words.next()?;
     (words.next() == Some(":") && name != "_").then(|| (name.to_string(), ""))
+}
+
+fn without_comment(line: &str) -> &str {
+    match line.find("//") {
+        // An address in a text.
+        Some(at) if line[..at].ends_with(':') => line,
+        Some(at) => &line[..at],
+        None => line,
+    }
+}
+
+/// What stands between the bracket at the start of a text and the one that
+/// closes it.
+fn bracketed(text: &str, open: char, close: char) -> &str {
+    let mut depth = 0;
+    for (at, c) in text.char_indices() {
+        if c == open {
+            depth += 1;
+        } else if c == close {
+            depth -= 1;
+            if depth == 0 {
+                return &text[open.len_utf8()..at];
+            }
+        }
+    }
+    ""
+}
+
+/// Where a word stands in a text, and no longer word that it is a part of.
+fn standing<'a>(text: &'a str, word: &'a str) -> impl Iterator<Item = usize> + 'a {
+    let is_part = |c: Option<char>| c.map_or(false, |c| c.is_alphanumeric() || c == '_');
+    text.match_indices(word)
+        .map(|(at, _)| at)
+        .filter(move |at| {
+            !is_part(text[..*at].chars().next_back())
+                && !is_part(text[at + word.len()..].chars().next())
+        })
+}
+
+/// The clauses of code without comments, each without its braces: what is
+/// required and ensured, and what is ghost.
+fn contracts(code: &str) -> impl Iterator<Item = &str> {
+    let words = ["requires", "ensures", "ghost"].into_iter();
+    words
+        .flat_map(move |word| standing(code, word).map(move |at| &code[at + word.len()..]))
+        .filter(|rest| !rest.trim_start().starts_with("use "))
+        .filter_map(|rest| {
+            let open = rest.find('{')?;
+            let named = !rest[..open].contains(|c| ";)".contains(c));
+            named.then(|| bracketed(&rest[open..], '{', '}'))
+        })
+}
+
+/// What the tactics of code are told to use: the last part of each path in
+/// `using(..)` and `unfolding(..)`.
+fn told(code: &str) -> Vec<String> {
+    let words = ["using", "unfolding"].into_iter();
+    let lists = words
+        .flat_map(|word| standing(code, word).map(move |at| &code[at + word.len()..]))
+        .filter(|rest| rest.starts_with('('))
+        .map(|rest| bracketed(rest, '(', ')'));
+    let paths = lists.flat_map(|list| list.split(','));
+    let ends = paths.filter_map(|path| path.rsplit("::").next());
+    let ends = ends.map(str::trim).filter(|name| !name.is_empty());
+    ends.map(str::to_string).collect()
 }
 
 impl Source {
@@ -94,8 +209,11 @@ impl Source {
         let mut modules: Vec<(usize, Vec<String>)> = Vec::new();
         // The record or data type that is open, and how far it is indented.
         let mut typed: Option<(usize, &str)> = None;
+        // The start of what Rattle asks for, as `goal.`.
+        let mut asked: Vec<String> = Vec::new();
         for line in text.lines() {
             if let Some(taken) = import(line) {
+                asked.extend(owed(&taken).map(|name| format!("{}.", name)));
                 source.imports.push(taken);
                 continue;
             }
@@ -118,10 +236,15 @@ impl Source {
                 (None, Some((name, kind))) if indent == within => {
                     let over = modules.iter().flat_map(|(_, over)| over.iter().cloned());
                     let cites = names(line).into_iter().chain(over).collect();
+                    let of = line.split(" : ").nth(1).unwrap_or_default().trim();
+                    let answers = asked
+                        .iter()
+                        .any(|start| of.strip_prefix(start.as_str()) == Some(&name));
                     source.definitions.push(Definition {
                         name,
                         cases: Vec::new(),
                         cites,
+                        answers,
                     });
                     if !kind.is_empty() {
                         typed = Some((indent, kind));
@@ -146,21 +269,24 @@ impl Source {
     }
 
     /// The text of a file of code: its contracts, as one definition without a
-    /// name, and what is imported for them.
+    /// name, what is imported for them, and what its tactics are told to use.
     pub fn of_code(text: &str) -> Source {
-        let ghosts = text.lines().filter(|line| line.starts_with("ghost use "));
-        let parts = text
-            .split('⌜')
-            .skip(1)
-            .filter_map(|part| part.split_once('⌝'));
-        let cites = parts.flat_map(|(contract, _)| names(contract)).collect();
+        let lines = text.lines();
+        let code: String = lines
+            .map(|line| without_comment(line).to_string() + "\n")
+            .collect();
+        let ghosts = code
+            .lines()
+            .filter(|line| line.trim_start().starts_with("ghost use "));
         Source {
             imports: ghosts.filter_map(import).collect(),
             definitions: vec![Definition {
                 name: String::new(),
                 cases: Vec::new(),
-                cites,
+                cites: contracts(&code).flat_map(names).collect(),
+                answers: false,
             }],
+            told: told(&code),
         }
     }
 
@@ -183,8 +309,8 @@ mod tests {
     fn takes_a_file_apart() {
         let source = Source::of(
             "-- What it is.\n\
-             use lib.Dec.{leb, eqb}\n\
-             use Rattle·a.specs.B.{short as brief}\n\
+             use Rattle.std.specs.Prelude.{[], ◌∷◌, leb, eqb}\n\
+             use Rattle.a.specs.B.{short as brief}\n\
              \n\
              -- a law, not other\n\
              unfoldable pub law : ℕ → ℕ\n\
@@ -200,14 +326,16 @@ mod tests {
              \x20 pub inner : ℕ\n\
              \x20 inner = law n\n\
              \n\
-             infixl 50 _by_\n\
-             pub _by_ : ℕ → ℕ → ℕ\n\
+             pub ruleset laws = (law, inner)\n\
+             \n\
+             infixl 50 ◌by◌\n\
+             pub ◌by◌ : ℕ → ℕ → ℕ\n\
              a by b = 2 by inner\n",
         );
         let taken: Vec<_> = source.taken().cloned().collect();
-        assert_eq!(taken, ["leb", "eqb", "brief"]);
+        assert_eq!(taken, ["◌∷◌", "leb", "eqb", "brief"]);
         let defined: Vec<_> = source.definitions.iter().map(|d| d.name.as_str()).collect();
-        assert_eq!(defined, ["law", "Small", "Way", "inner", "_by_"]);
+        assert_eq!(defined, ["law", "Small", "Way", "inner", "laws", "◌by◌"]);
         assert_eq!(source.definitions[2].cases, ["up"]);
         assert!(cited(&source, "law").contains(&"brief".to_string()));
         assert!(!cited(&source, "law").contains(&"field".to_string()));
@@ -215,18 +343,80 @@ mod tests {
         assert!(cited(&source, "Small").contains(&"five".to_string()));
         assert!(cited(&source, "inner").contains(&"law".to_string()));
         assert!(cited(&source, "inner").contains(&"Small".to_string()));
-        assert!(cited(&source, "_by_").contains(&"by".to_string()));
+        assert!(cited(&source, "laws").contains(&"law".to_string()));
+        assert!(cited(&source, "◌by◌").contains(&"by".to_string()));
+        assert!(source.definitions.iter().all(|d| !d.answers));
+    }
+
+    #[test]
+    fn names_operators_by_their_first_sign() {
+        assert_eq!(written("◌+◌"), "+");
+        assert_eq!(written("◌broken_if◌"), "broken_if");
+        assert_eq!(written("if◌then◌else◌"), "if");
+        assert_eq!(written("plain_word"), "plain_word");
+        assert_eq!(written("[]"), "");
+        assert_eq!(written("◌[◌]"), "");
+    }
+
+    #[test]
+    fn knows_what_is_asked_for() {
+        let source = Source::of(
+            "use Rattle.a.proofs.f.Goals as goal\n\
+             use Rattle.a.proofs.Laws as laws\n\
+             \n\
+             helper : goal.returns\n\
+             helper = returns\n\
+             \n\
+             pub returns : goal.returns\n\
+             returns c = c.f.ensures\n\
+             \n\
+             pub law : laws.law\n\
+             law = refl\n",
+        );
+        let asked: Vec<_> = source.definitions.iter().map(|d| d.answers).collect();
+        assert_eq!(asked, [false, true, false]);
+    }
+
+    #[test]
+    fn knows_for_whom_an_import_is() {
+        let source = Source::of_code(
+            "ghost use Rattle.a.specs.B.{answer};\n\
+             impl Model for A {\n    ghost use Rattle.a.specs.B.{inner};\n}\n",
+        );
+        let reach: Vec<_> = source.imports.iter().map(|import| import.reach).collect();
+        assert_eq!(reach, [Reach::File, Reach::Block]);
+        let source = Source::of("pub use Rattle.a.specs.B.{answer}\n");
+        assert_eq!(source.imports[0].reach, Reach::Others);
     }
 
     #[test]
     fn reads_contracts() {
         let source = Source::of_code(
             "use a::b;\n\
-             ghost use Rattle·a.specs.B.{answer};\n\
-             fn f()\n    ensures { λ r. ⌜ r ≡ answer s ⌝ }\n{ other() }\n",
+             ghost use Rattle.a.specs.B.{answer};\n\
+             // What one requires of { this }.\n\
+             pub struct Part {\n    pub n: u8,\n    ghost few: { n < bound },\n}\n\
+             fn f()\n    requires { IsSmall s.now }\n    \
+             ensures low { result ≡ answer record { part = s.old } }\n    \
+             ensures high { long\n        ≤ longer }\n{ other() }\n\
+             fn requires_no(ghost: u8) { another() }\n",
         );
         assert_eq!(source.taken().collect::<Vec<_>>(), ["answer"]);
-        assert!(cited(&source, "").contains(&"answer".to_string()));
-        assert!(!cited(&source, "").contains(&"other".to_string()));
+        let names = cited(&source, "");
+        for name in ["IsSmall", "answer", "part", "bound", "long", "longer"] {
+            assert!(names.contains(&name.to_string()), "{}", name);
+        }
+        for name in ["this", "other", "another", "now", "old", "low", "few"] {
+            assert!(!names.contains(&name.to_string()), "{}", name);
+        }
+    }
+
+    #[test]
+    fn reads_what_tactics_are_told() {
+        let source = Source::of_code(
+            "#[tactic(auto, using(crate::proofs::Runs::law, std::proofs::lemmas::Grind::common_steps), \
+             unfolding(crate::specs::Runs::larger))]\nfn using() {}\n",
+        );
+        assert_eq!(source.told, ["law", "common_steps", "larger"]);
     }
 }

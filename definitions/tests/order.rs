@@ -8,14 +8,14 @@ use std::process::Command;
 /// names, a law that a proof cites, a theorem that the promises name.
 const SPEC: &str = "\
 -- What it is.
-use lib.Dec.{leb}
+use Rattle.std.specs.Prelude.{leb}
 
 -- the smaller of two
 pub small : ℕ → ℕ
 small n = leb n
 ";
 const LAW: &str = "\
-use Rattle·one·specs.specs.A.{small}
+use Rattle.one.specs.A.{small}
 
 pub law : small 1
 law = refl
@@ -24,16 +24,17 @@ pub theorem : small 2
 theorem = refl
 ";
 const PROOF: &str = "\
-use Rattle·one·proofs.proofs.Laws.{law}
+use Rattle.one.proofs.Laws.{law}
+use Rattle.one.proofs.f.Goals as goal
 
-pub f-spec : statement
-f-spec = law
+pub returns : goal.returns
+returns c = law
 ";
 const CODE: &str = "\
-ghost use Rattle·one·specs.specs.A.{small};
+ghost use Rattle.one.specs.A.{small};
 
-pub fn f()
-    ensures { λ r. ⌜ r ≡ small n ⌝ }
+pub fn f(size: usize)
+    ensures { result ≡ small size }
 {
 }
 ";
@@ -47,7 +48,7 @@ impl Project {
         let project = Project(std::env::temp_dir().join(folder));
         project.write("crates/one/specs/A.antt", SPEC);
         project.write("crates/one/proofs/Laws.antt", LAW);
-        project.write("crates/one/proofs/f/Proof.antt", PROOF);
+        project.write("crates/one/proofs/f/Answers.antt", PROOF);
         project.write("crates/one/src/lib.rt", CODE);
         project.write("docs/PROMISES.md", PROMISES);
         project
@@ -80,7 +81,7 @@ fn order_is_silent() {
 fn a_law_that_serves_nothing() {
     let project = Project::new("idle");
     let more = format!(
-        "{}\nidle : small 3\nidle = law\n\nself-cited : small 4\nself-cited = self-cited\n",
+        "{}\nidle : small 3\nidle = law\n\nself_cited : small 4\nself_cited = self_cited\n",
         LAW
     );
     project.write("crates/one/proofs/Laws.antt", &more);
@@ -88,7 +89,7 @@ fn a_law_that_serves_nothing() {
         project.complaints(),
         [
             "`idle`, crates/one/proofs/Laws.antt, serves nothing.",
-            "`self-cited`, crates/one/proofs/Laws.antt, serves nothing.",
+            "`self_cited`, crates/one/proofs/Laws.antt, serves nothing.",
         ]
     );
 }
@@ -119,12 +120,57 @@ fn a_table_of_other_things_names_no_theorem() {
 #[test]
 fn a_definition_that_only_shares_a_name_with_a_parameter() {
     let project = Project::new("parameter");
-    let more = format!("{}\n-- idle\npub r : ℕ\nr = 2\n", SPEC);
+    let more = format!("{}\n-- idle\npub size : ℕ\nsize = 2\n", SPEC);
     project.write("crates/one/specs/A.antt", &more);
     assert_eq!(
         project.complaints(),
-        ["`r`, crates/one/specs/A.antt, serves nothing."]
+        ["`size`, crates/one/specs/A.antt, serves nothing."]
     );
+}
+
+#[test]
+fn what_an_invariant_cites_serves() {
+    let project = Project::new("invariant");
+    let invariant = PROOF
+        .replace("Goals", "Given")
+        .replace("returns", "invariant-loop-i");
+    project.write("crates/one/proofs/f/Answers.antt", "");
+    let told = ["`law`, crates/one/proofs/Laws.antt, serves nothing."];
+    assert_eq!(project.complaints(), told);
+    project.write("crates/one/proofs/f/Invariants.antt", &invariant);
+    assert_eq!(project.complaints(), [] as [&str; 0]);
+}
+
+#[test]
+fn what_a_walk_through_the_code_cites_serves() {
+    let project = Project::new("walk");
+    let walk = PROOF.replace(
+        "returns : goal.returns\nreturns c",
+        "f_spec : statement\nf_spec",
+    );
+    project.write("crates/one/proofs/f/Answers.antt", "");
+    project.write("crates/one/proofs/f/Proof.antt", &walk);
+    assert_eq!(project.complaints(), [] as [&str; 0]);
+}
+
+#[test]
+fn what_a_tactic_is_told_serves() {
+    let project = Project::new("told");
+    project.write("crates/one/proofs/f/Answers.antt", "");
+    let told = CODE.replace(
+        "pub fn",
+        "#[tactic(auto, using(crate::proofs::Laws::law))]\npub fn",
+    );
+    project.write("crates/one/src/lib.rt", &told);
+    assert_eq!(project.complaints(), [] as [&str; 0]);
+}
+
+#[test]
+fn what_is_handed_on_is_used() {
+    let project = Project::new("handed");
+    let handed = format!("pub use Rattle.std.specs.Prelude.{{eqb}}\n{}", SPEC);
+    project.write("crates/one/specs/A.antt", &handed);
+    assert_eq!(project.complaints(), [] as [&str; 0]);
 }
 
 #[test]
@@ -188,14 +234,14 @@ fn a_name_of_the_kit() {
 fn imports_that_are_not_used_or_doubled() {
     let project = Project::new("imports");
     let doubled = SPEC.replace(
-        "use lib.Dec.{leb}\n",
-        "use lib.Dec.{leb}\nuse lib.Dec.{eqb}\n",
+        "use Rattle.std.specs.Prelude.{leb}\n",
+        "use Rattle.std.specs.Prelude.{leb}\nuse Rattle.std.specs.Prelude.{eqb}\n",
     );
     project.write("crates/one/specs/A.antt", &doubled);
     assert_eq!(
         project.complaints(),
         [
-            "crates/one/specs/A.antt imports `lib.Dec` twice.",
+            "crates/one/specs/A.antt imports `Rattle.std.specs.Prelude` twice.",
             "`eqb` is imported by crates/one/specs/A.antt and not used.",
         ]
     );
@@ -206,14 +252,14 @@ fn an_operator_is_used_where_its_sign_stands() {
     let project = Project::new("operators");
     let added = SPEC
         .replace(
-            "use lib.Dec.{leb}\n",
-            "use lib.Dec.{leb}\nuse lib.ListN.{[], _+_, _-_}\n",
+            "use Rattle.std.specs.Prelude.{leb}\n",
+            "use Rattle.std.specs.Prelude.{leb, [], ◌+◌, ◌-◌}\n",
         )
         .replace("leb n", "leb (n + 1)");
     project.write("crates/one/specs/A.antt", &added);
     assert_eq!(
         project.complaints(),
-        ["`_-_` is imported by crates/one/specs/A.antt and not used."]
+        ["`◌-◌` is imported by crates/one/specs/A.antt and not used."]
     );
 }
 

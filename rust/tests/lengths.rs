@@ -29,7 +29,7 @@ fn of_a_line_and_of_all_lines() {
 #[test]
 fn of_the_findings() {
     let definition = include_str!("../../crates/findings/specs/Listing.antt");
-    assert_holds(definition, &format!("mostFindings = {MOST_FINDINGS}"));
+    assert_holds(definition, &format!("most_findings = {MOST_FINDINGS}"));
     assert_holds(
         HEADER,
         &format!("#define LEVERBONNET_FINDING_BYTES {FINDING_LENGTH}"),
@@ -48,7 +48,7 @@ fn of_a_text() {
     assert_holds(
         theorems,
         &format!(
-            "pub text-most : (fig : Figure) (s : List ℕ) → length (jobText fig s) ≤ {MOST_TEXT}"
+            "pub text_most : (fig : Figure) (s : List ℕ) → length (job_text fig s) ≤ {MOST_TEXT}"
         ),
     );
     assert_holds(
@@ -68,7 +68,7 @@ fn of_an_explanation() {
     assert_holds(
         include_str!("../../crates/explanations/proofs/Lengths.antt"),
         &format!(
-            "pub written-short : (form : Form) (e : Explanation) → length (written form e) ≤ {MOST_EXPLANATION_TEXT}"
+            "pub written_short : (form : Form) (e : Explanation) → length (written form e) ≤ {MOST_EXPLANATION_TEXT}"
         ),
     );
     for (name, length) in [
@@ -85,7 +85,7 @@ fn of_an_explanation() {
 fn of_a_job() {
     let definition = include_str!("../../crates/job/specs/Places.antt");
     let longest = LONGEST.len();
-    assert_holds(definition, &format!("longestJob = {longest}"));
+    assert_holds(definition, &format!("longest_job = {longest}"));
     assert_holds(
         HEADER,
         &format!("#define LEVERBONNET_JOB_BYTES_MOST {longest}"),
@@ -99,7 +99,7 @@ fn of_a_figure() {
     let most_steps: usize = most_steps.parse().expect("an end is a number");
     let longest = FIGURE_HEADER.length + 2 * (STEPS.length + most_steps * STEP.length);
     let definition = include_str!("../../crates/figures/specs/Figures.antt");
-    assert_holds(definition, &format!("longestFigure = {longest}"));
+    assert_holds(definition, &format!("longest_figure = {longest}"));
     assert_holds(
         HEADER,
         &format!("#define LEVERBONNET_FIGURE_BYTES_MOST {longest}"),

@@ -8,7 +8,7 @@ use crate::Work;
 const USAGE: &str = "install DIR";
 
 /// The proved library is x86-64 code. Elsewhere the program asks the program
-/// `calls`, which runs under the kit's emulator and can't leave its project.
+/// `calls`, which runs under an emulator and can't leave its project.
 const LINKED: bool = cfg!(target_arch = "x86_64");
 
 pub(crate) const COMMAND: Command = Command {

@@ -2,6 +2,7 @@
 //! proves nothing, cargo has its programs ready, and uname names any processor.
 
 use std::collections::BTreeSet;
+use std::ffi::OsString;
 use std::fs::{self, File};
 use std::io::Read;
 use std::process::{Command, Stdio};
@@ -12,25 +13,14 @@ use crate::copy::{outside, path_of, Copy, StandIns};
 use crate::run::{ended, ended_with_input, started, Ended};
 use crate::user::held_back;
 
-/// Says what rt says, and makes what rt makes.
+/// Says what rt says of the crate that it stands in, and makes what rt makes.
 const RT: &str = r#"
-case $1 in
-check)
-    shift
-    for crate; do echo "rt: $crate proved (1 s)"; done
-    echo "rt: $# crates proved"
-    if [ "$*" = calls ] && [ ! -f target/stamp/calls ]; then
-        mkdir -p target/bin target/stamp
-        echo calls >target/bin/calls
-        echo calls >target/stamp/calls
-    fi
-    ;;
-staticlib)
-    echo "rt: arith proved (unchanged since it was last proved)" >&2
-    mkdir -p target/staticlib
-    echo library >target/staticlib/libleverbonnet.a
-    echo "rt: target/staticlib/libleverbonnet.a has the functions of leverbonnet"
-    ;;
+crate=${PWD##*/}
+echo "fn $crate::f: proved"
+mkdir -p out
+case "$1 $crate" in
+"lib leverbonnet_c") echo library >out/libleverbonnet_c.a ;;
+"run calls") [ -f out/calls ] || echo calls >out/calls ;;
 esac"#;
 
 /// The program to build is cargo's last word.
@@ -57,10 +47,10 @@ struct Workshop {
 
 impl Workshop {
     /// A copy with nothing built, on such a processor. Of the kit there is what
-    /// its programs are run with.
+    /// its programs are run with, and on the PATH is the emulator.
     fn on(processor: &str) -> Self {
         let stand_ins = StandIns::new();
-        stand_ins.put("rt", RT);
+        put_rt(&stand_ins, RT);
         stand_ins.put("cargo", CARGO);
         // Only looked for. The machine's own may lie where nobody may look.
         for tool in ["rustc", "cc"] {
@@ -69,8 +59,8 @@ impl Workshop {
         stand_ins.put_quiet("uname", &format!("echo {processor}"));
         stand_ins.put_quiet("ready/judge", FOR_THE_PROGRAM);
         stand_ins.put_quiet("ready/leverbonnet", PROGRAM);
-        for tool in ["lib/ld-linux-x86-64.so.2", "bin/qemu-x86_64"] {
-            stand_ins.put_quiet(&format!("kit/on/{processor}/toolchain/{tool}"), "");
+        for tool in ["kit/toolchain/lib/ld-linux-x86-64.so.2", "qemu-x86_64"] {
+            stand_ins.put_quiet(tool, "");
         }
         let copy = Copy::new();
         Workshop { copy, stand_ins }
@@ -132,6 +122,13 @@ impl Workshop {
     }
 }
 
+/// An rt that writes down its words and the crate that it stands in, before it
+/// does what the script says.
+fn put_rt(stand_ins: &StandIns, script: &str) {
+    let line = r#"stand_ins=$(dirname -- "$0"); echo "rt $* of ${PWD##*/}" >>"$stand_ins/started""#;
+    stand_ins.put_quiet("rt", &format!("{line}\n{script}"));
+}
+
 /// The crates of crates.txt from its top, each with those that it names.
 fn listed(copy: &Copy) -> Vec<(String, Vec<String>)> {
     let text = copy.read("crates.txt");
@@ -139,22 +136,15 @@ fn listed(copy: &Copy) -> Vec<(String, Vec<String>)> {
     lines
         .filter_map(|line| line.split_once(':'))
         .map(|(name, used)| {
+            let name = name.split_whitespace().next().expect("it has a name");
             let used = used.split_whitespace().map(str::to_string);
             (name.to_string(), used.collect())
         })
         .collect()
 }
 
-/// The crates of crates.txt up to this one.
-fn crates_up_to(copy: &Copy, last: &str) -> Vec<String> {
-    let mut names: Vec<String> = listed(copy).into_iter().map(|(name, _)| name).collect();
-    let place = names.iter().position(|name| name == last);
-    names.truncate(place.expect("it is listed") + 1);
-    names
-}
-
-/// Those of crates.txt that this one rests on, with itself.
-fn rested_on(copy: &Copy, last: &str) -> BTreeSet<String> {
+/// Those of crates.txt that this one rests on, and itself, from the top.
+fn rested_on(copy: &Copy, last: &str) -> Vec<String> {
     let mut needed = BTreeSet::from([last.to_string()]);
     for (name, used) in listed(copy).into_iter().rev() {
         if needed.contains(&name) {
@@ -166,44 +156,46 @@ fn rested_on(copy: &Copy, last: &str) -> BTreeSet<String> {
 }
 
 #[test]
-fn what_is_counted_is_what_is_proved() {
+fn every_crate_names_only_crates_above_it() {
     let copy = Copy::new();
-    for last in ["leverbonnet", "calls"] {
-        let counted: BTreeSet<String> = crates_up_to(&copy, last).into_iter().collect();
-        assert_eq!(counted, rested_on(&copy, last), "{last}");
+    let mut above = BTreeSet::new();
+    for (name, used) in listed(&copy) {
+        assert!(used.iter().all(|used| above.contains(used)), "{name}");
+        above.insert(name);
     }
 }
 
 #[test]
 fn every_crate_is_told_as_it_is_proved() {
     let workshop = Workshop::new();
-    let crates = crates_up_to(&workshop.copy, "leverbonnet");
+    let crates = rested_on(&workshop.copy, "leverbonnet_c");
     let total = crates.len();
     let mut expected = vec![
         "leverbonnet: proves what is not proved yet, which may take some minutes.".to_string(),
     ];
-    for (index, name) in crates[..total - 1].iter().enumerate() {
-        expected.push(format!(
-            "leverbonnet: proved {} of {total}: {name} (1 s)",
-            index + 1
-        ));
+    for (index, name) in crates.iter().enumerate() {
+        let line = format!("leverbonnet: proved {} of {total}: {name}", index + 1);
+        expected.push(line);
     }
-    expected.push(format!(
-        "leverbonnet: proved {total} of {total}: leverbonnet"
-    ));
     let told = workshop.assert_answers();
-    assert_eq!(told.lines().collect::<Vec<&str>>(), expected);
+    let without_seconds = told.lines().map(|line| match line.strip_suffix(" s)") {
+        Some(line) => line.trim_end_matches(|c: char| c.is_ascii_digit()),
+        None => line,
+    });
+    let told: Vec<&str> = without_seconds
+        .map(|line| line.strip_suffix(" (").unwrap_or(line))
+        .collect();
+    assert_eq!(told, expected);
 }
 
 #[test]
 fn everything_below_the_library_is_proved_and_then_the_library() {
     let workshop = Workshop::new();
-    let mut crates = crates_up_to(&workshop.copy, "leverbonnet");
-    crates.pop();
+    let crates = rested_on(&workshop.copy, "leverbonnet_c");
+    assert!(crates.contains(&"leverbonnet".to_string()));
     workshop.assert_answers();
-    let check = format!("rt check {}", crates.join(" "));
-    let expected = [&check, "rt staticlib leverbonnet"];
-    assert_eq!(workshop.proofs_started(), expected);
+    let expected = crates.iter().map(|name| format!("rt lib of {name}"));
+    assert_eq!(workshop.proofs_started(), expected.collect::<Vec<_>>());
 }
 
 #[test]
@@ -211,8 +203,8 @@ fn all_that_rt_says_is_kept() {
     let workshop = Workshop::new();
     workshop.assert_answers();
     let log = workshop.copy.read("target/made/library.log");
-    assert!(log.contains("rt: arith proved (unchanged since it was last proved)\n"));
-    assert!(log.contains("rt: target/staticlib/libleverbonnet.a has the functions"));
+    assert!(log.starts_with("fn arith::f: proved\n"), "{log}");
+    assert!(log.ends_with("fn leverbonnet_c::f: proved\n"), "{log}");
 }
 
 #[test]
@@ -232,6 +224,7 @@ fn what_changed_decides_what_is_built() {
         ("words/src/lib.rs", &["judge", "program"]),
         ("crates/arith/src/lib.rt", &["rt", "program"]),
         ("crates.txt", &["rt", "program"]),
+        ("crates/arith/out/kept", &[]),
         ("README.md", &[]),
     ] {
         workshop.copy.touch(source);
@@ -269,13 +262,17 @@ fn a_source_changed_during_a_build_leaves_the_program_due() {
         ("cargo", CARGO, "command/src/main.rs", &["program"][..]),
         ("rt", RT, "crates/arith/src/lib.rt", &["rt", "program"]),
     ] {
+        let put = |script: &str| match tool {
+            "rt" => put_rt(&workshop.stand_ins, script),
+            _ => workshop.stand_ins.put(tool, script),
+        };
         workshop.copy.touch(source);
         // A moment after the start, so that the two times differ.
         let path = workshop.copy.join(source);
         let changing = format!("sleep 0.05; touch '{}'\n{script}", path.display());
-        workshop.stand_ins.put(tool, &changing);
+        put(&changing);
         assert_eq!(workshop.started_by_a_call(), expected);
-        workshop.stand_ins.put(tool, script);
+        put(script);
         assert_eq!(workshop.started_by_a_call(), expected, "{tool}");
         assert_eq!(workshop.started_by_a_call(), Vec::<&str>::new());
     }
@@ -301,7 +298,7 @@ fn calls_at_once_build_once() {
     let started = workshop.stand_ins.started();
     let built = |name: &str| started.iter().filter(|line| line.ends_with(name)).count();
     assert_eq!((built(" judge"), built(" --bin leverbonnet")), (1, 1));
-    assert_eq!(built("rt staticlib leverbonnet"), 1);
+    assert_eq!(built("rt lib of leverbonnet_c"), 1);
 }
 
 #[test]
@@ -358,7 +355,7 @@ fn the_program_does_not_hold_the_lock() {
 #[test]
 fn neither_rt_nor_cargo_reads_the_callers_input() {
     let workshop = Workshop::new();
-    workshop.stand_ins.put("rt", &format!("cat\n{RT}"));
+    put_rt(&workshop.stand_ins, &format!("cat\n{RT}"));
     workshop.stand_ins.put("cargo", &format!("cat\n{CARGO}"));
     let answer = ended_with_input(&mut workshop.call(), b"the job");
     assert_eq!(answer.out, "program sheet a b\nthe job", "{answer:?}");
@@ -397,8 +394,8 @@ fn the_judges_answer_is_the_answer() {
 #[test]
 fn a_proof_that_fails_is_told_with_its_log_and_tried_again() {
     let workshop = Workshop::new();
-    let failing = "echo 'rt: arith proved (1 s)'; echo 'rt: lines NOT PROVED'; exit 1";
-    workshop.stand_ins.put("rt", failing);
+    let failing = "echo 'fn arith::f: no proof'; exit 1";
+    put_rt(&workshop.stand_ins, failing);
     for _ in 0..2 {
         let failed = ended(&mut workshop.call());
         assert_eq!((failed.out.as_str(), failed.status), ("", 1));
@@ -408,18 +405,18 @@ fn a_proof_that_fails_is_told_with_its_log_and_tried_again() {
             "{last}"
         );
         let log = workshop.copy.read("target/made/library.log");
-        assert!(log.contains("rt: lines NOT PROVED"), "{log}");
+        assert!(log.contains("fn arith::f: no proof"), "{log}");
         assert_eq!(workshop.proofs_started().len(), 1);
     }
-    workshop.stand_ins.put("rt", RT);
+    put_rt(&workshop.stand_ins, RT);
     workshop.assert_answers();
 }
 
 #[test]
 fn a_library_that_fails_after_its_proofs_is_told() {
     let workshop = Workshop::new();
-    let failing = format!("[ \"$1\" != staticlib ] || exit 1\n{RT}");
-    workshop.stand_ins.put("rt", &failing);
+    let failing = format!("[ \"${{PWD##*/}}\" != leverbonnet_c ] || exit 1\n{RT}");
+    put_rt(&workshop.stand_ins, &failing);
     assert_eq!(ended(&mut workshop.call()).status, 1);
     assert!(!workshop.copy.join("target/made/library").exists());
 }
@@ -473,27 +470,53 @@ fn on_another_processor_the_program_is_told_how_the_calls_are_made() {
     let workshop = Workshop::on("aarch64");
     let telling = r#"printf '%s\n' "$LEVERBONNET_CALLS""#;
     workshop.stand_ins.put_quiet("ready/leverbonnet", telling);
-    let tools = workshop.stand_ins.join("kit/on/aarch64/toolchain");
     let expected = format!(
-        "{0}/bin/qemu-x86_64\n{0}/lib/ld-linux-x86-64.so.2\n--library-path\n{0}/lib\n{1}\n",
-        tools.display(),
-        workshop.copy.join("target/bin/calls").display()
+        "{0}/qemu-x86_64\n{0}/kit/toolchain/lib/ld-linux-x86-64.so.2\n--library-path\n\
+         {0}/kit/toolchain/lib\n{1}\n",
+        workshop.stand_ins.display(),
+        workshop.copy.join("crates/calls/out/calls").display()
     );
     // The second call finds everything built.
     for _ in 0..2 {
         let answer = ended(&mut workshop.call());
         assert_eq!((&answer.out, answer.status), (&expected, 0), "{answer:?}");
     }
-    assert_eq!(workshop.proofs_started(), ["rt check calls"]);
+    let mut crates = rested_on(&workshop.copy, "calls");
+    assert_eq!(crates.pop().as_deref(), Some("calls"));
+    let mut expected: Vec<String> = crates
+        .iter()
+        .map(|name| format!("rt lib of {name}"))
+        .collect();
+    expected.push("rt run of calls".to_string());
+    assert_eq!(workshop.proofs_started(), expected);
 }
 
 #[test]
 fn on_another_processor_missing_calls_are_made_again() {
     let workshop = Workshop::on("aarch64");
     workshop.assert_answers();
-    for product in ["target/bin/calls", "target/program/calls"] {
+    for product in ["crates/calls/out/calls", "target/program/calls"] {
         workshop.copy.remove(product);
         workshop.assert_answers();
         assert!(workshop.copy.join(product).exists(), "{product}");
     }
+}
+
+#[test]
+fn on_another_processor_a_missing_emulator_is_named() {
+    let workshop = Workshop::on("aarch64");
+    workshop.assert_answers();
+    workshop.stand_ins.remove("qemu-x86_64");
+    let mut path = OsString::from(workshop.stand_ins.as_os_str());
+    let tools = path_of(["timeout", "dirname"].into_iter());
+    path.push(":");
+    path.push(&*tools);
+    let mut command = outside(workshop.copy.join("scripts/run-program"));
+    command.args(["--print", "calls"]).env("PATH", path);
+    command.env("RATTLE_HOME", workshop.stand_ins.join("kit"));
+    let told = ended(&mut command);
+    let sentence = "qemu-x86_64 is missing: it is not on the PATH, and without it no program";
+    assert!(told.told.starts_with(sentence), "{told:?}");
+    assert!(told.told.contains("the package qemu-user"), "{told:?}");
+    assert_eq!((told.out.as_str(), told.status), ("", 1));
 }

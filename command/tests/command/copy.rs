@@ -126,6 +126,11 @@ impl StandIns {
         self.0.put_script(name, script);
     }
 
+    /// Takes a stand-in away.
+    pub fn remove(&self, name: &str) {
+        fs::remove_file(self.0.join(name)).expect("it is there, and ours");
+    }
+
     /// What was started, a line each, since this was last asked.
     pub fn started(&self) -> Vec<String> {
         let path = self.0.join("started");

@@ -70,7 +70,7 @@ fn put_library(copy: &Copy) {
 /// The program that makes the proved calls as if it had just been proved.
 #[cfg(not(target_arch = "x86_64"))]
 fn put_library(copy: &Copy) {
-    const CALLS: &str = "target/bin/calls";
+    const CALLS: &str = "crates/calls/out/calls";
     copy.put(&project().join(CALLS), CALLS);
     copy.write("target/made/library", "");
 }

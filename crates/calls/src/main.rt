@@ -15,8 +15,9 @@
 // that takes no figure looks at none. The reply is the call's answer as a u64, 0 where there is no such call, then
 // both outputs as the call left them.
 
-ghost use Rattle.std.specs.Prelude.{◌≡◌, min, length, replicate};
-ghost use Rattle.io.specs.Counts.{IsPrefixLen};
+#![tactic(auto)]
+
+ghost use Rattle.std.specs.Prelude.{◌≡◌, ◌≤◌, min, length, take, replicate};
 ghost use Rattle.calls.specs.Requests.{Replied};
 
 use fields::numbers;
@@ -26,14 +27,17 @@ use leverbonnet::{
     leverbonnet_reduce_by_figure, leverbonnet_round_layout, leverbonnet_run_count,
     leverbonnet_run_number, leverbonnet_sheet_text, leverbonnet_sheet_text_by_figure,
 };
-use libc::{STDIN_FILENO, STDOUT_FILENO};
+use std::io;
+use std::io::{Read, Write};
+use streams::read_full;
 
 // How many bytes the header of a request has.
 const HEADER_SIZE: usize = 18;
 
 // A size that the header gives, as far as the buffer goes: the smaller of the size and the buffer's length.
 fn within(size: usize, buf: &[u8]) -> usize
-    ensures within { IsPrefixLen result buf.now }
+    ensures within { result ≤ length buf.now }
+    ensures taken { result ≡ length (take result buf.now) }
     ensures value { result ≡ min size (length buf.now) }
 {
     if size < buf.len() { size } else { buf.len() }
@@ -82,59 +86,65 @@ fn answer(
     }
 }
 
-fn write_answer(answer: u64) {
+fn write_answer<W: Write>(to: &mut W, answer: u64) -> io::Result<()> {
     let mut reply = [0u8; 8];
     output::put_number(&mut reply, 0, 8, answer);
-    io::write_all(STDOUT_FILENO, &reply);
+    to.write_all(&reply)
 }
 
 // Reads the files that a header announces, makes the call and writes the reply. The four buffers have the
 // lengths that the header gives.
-fn exchange(
+fn exchange<R: Read, W: Write>(
+    from: &mut R,
+    to: &mut W,
     header: &[u8; HEADER_SIZE],
     figure: &mut [u8],
     job: &mut [u8],
     first: &mut [u8],
     second: &mut [u8],
-) {
-    io::read_full(STDIN_FILENO, figure);
-    io::read_full(STDIN_FILENO, job);
+) -> io::Result<()> {
+    read_full(from, figure)?;
+    read_full(from, job)?;
     fill(first, header[1]);
     fill(second, header[1]);
-    write_answer(answer(header, figure, job, first, second));
-    io::write_all(STDOUT_FILENO, first);
-    io::write_all(STDOUT_FILENO, second);
+    write_answer(to, answer(header, figure, job, first, second))?;
+    to.write_all(first)?;
+    to.write_all(second)
 }
 
 // Answers one request, and says whether there was one.
-fn serve() -> bool {
+fn serve<R: Read, W: Write>(from: &mut R, to: &mut W) -> io::Result<bool> {
     let mut header = [0u8; HEADER_SIZE];
-    if io::read_full(STDIN_FILENO, &mut header) < HEADER_SIZE {
-        return false;
+    if read_full(from, &mut header)? < HEADER_SIZE {
+        return Ok(false);
     }
-    let mut figure = io::buffer();
-    let mut job = io::large_buffer();
-    let mut first = io::large_buffer();
-    let mut second = io::buffer();
+    let mut figure = [0u8; 4096];
+    let mut job = [0u8; 65536];
+    let mut first = [0u8; 65536];
+    let mut second = [0u8; 4096];
     let steps = within(numbers::u16_at(&header, 16) as usize, &figure);
     let length = within(numbers::u32_at(&header, 12) as usize, &job);
     let one = within(numbers::u16_at(&header, 8) as usize, &first);
     let two = within(numbers::u16_at(&header, 10) as usize, &second);
     exchange(
+        from,
+        to,
         &header,
         &mut figure[..steps],
         &mut job[..length],
         &mut first[..one],
         &mut second[..two],
-    );
-    true
+    )?;
+    Ok(true)
 }
 
-// A proved loop has to end, and nothing says that the input does: the loop counts its turns down, from a
-// number that no input uses up.
-fn main() {
-    let mut turns = u64::MAX;
-    while turns > 0 && serve() {
-        turns -= 1;
+// A proved loop has to end, and nothing says that the input does: the loop has a number of turns that no input
+// uses up.
+fn main(rt: HostRuntime) -> io::Result<()> {
+    for _ in 0..u64::MAX {
+        if !serve(&mut rt.stdin(), &mut rt.stdout())? {
+            break;
+        }
     }
+    Ok(())
 }
