@@ -2,6 +2,8 @@
 // Relies on the calls for runs and their numbers, for findings, for the printed text and for layouts, and on `output`, which makes an answer
 // one number.
 
+#![tactic(auto)]
+
 ghost use Rattle.std.specs.Prelude.{◌≡◌, length};
 ghost use Rattle.output.specs.Answers.{packed};
 ghost use Rattle.layouts.specs.Outcomes.{round_outcome, rectangle_outcome};

@@ -1,0 +1,22 @@
+-- The answer, packed; the output as the call left it.
+use borrow.Author.Rules.{rules}
+use mathlib.Core.Path.{◌∙◌, ap}
+use Rattle.output.specs.Answers.{packed}
+use Rattle.leverbonnet.proofs.leverbonnet_explain.Goals as goal
+
+pub none-requires : goal.none-requires
+none-requires c = search rules
+
+pub explain-requires : goal.explain-requires
+explain-requires c = search rules
+
+pub packed-requires : goal.packed-requires
+packed-requires c = search rules
+
+pub shape_of-out : goal.shape_of-out
+shape_of-out c = search rules
+
+pub returns : goal.returns
+returns c =
+    let explained = rw c.none.ensures at c.explain.ensures in
+    record { answer = c.packed.ensures ∙ ap packed explained.answer; out = explained.out }

@@ -1,0 +1,19 @@
+-- The answer, packed; the output as the call left it.
+use borrow.Author.Rules.{rules}
+use mathlib.Core.Path.{◌∙◌, ap}
+use Rattle.output.specs.Answers.{packed}
+use Rattle.leverbonnet.proofs.leverbonnet_sheet_text_by_figure.Goals as goal
+
+pub sheet_text_by_figure-requires : goal.sheet_text_by_figure-requires
+sheet_text_by_figure-requires c = search rules
+
+pub packed-requires : goal.packed-requires
+packed-requires c = search rules
+
+pub shape_of-out : goal.shape_of-out
+shape_of-out c = search rules
+
+pub returns : goal.returns
+returns c =
+    let printed = c.sheet_text_by_figure.ensures in
+    record { answer = c.packed.ensures ∙ ap packed printed.answer; out = printed.out }
