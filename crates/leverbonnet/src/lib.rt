@@ -16,21 +16,14 @@ use asking::{explain, explain_by_figure};
 use forms::Form;
 
 // Works the run of that number: 180 bytes of lines, 4 bytes a finding.
-#[unsafe(no_mangle)]
-pub extern "C" fn leverbonnet_reduce(
-    job: &[u8],
-    run: u16,
-    lines: &mut [u8],
-    findings: &mut [u8],
-) -> u64
+pub fn leverbonnet_reduce(job: &[u8], run: u16, lines: &mut [u8], findings: &mut [u8]) -> u64
     ensures { Reduces none_supplied job.now run lines.old findings.old lines.new findings.new result }
 {
     runs::reduce(job, run, lines, findings).packed()
 }
 
 // The same by a figure, which is judged before the job is read.
-#[unsafe(no_mangle)]
-pub extern "C" fn leverbonnet_reduce_by_figure(
+pub fn leverbonnet_reduce_by_figure(
     figure: &[u8],
     job: &[u8],
     run: u16,
@@ -43,54 +36,42 @@ pub extern "C" fn leverbonnet_reduce_by_figure(
 }
 
 // How many runs a job holds.
-#[unsafe(no_mangle)]
-pub extern "C" fn leverbonnet_run_count(job: &[u8]) -> u64
+pub fn leverbonnet_run_count(job: &[u8]) -> u64
     ensures { result ≡ packed (count_answer job.now) }
 {
     counting::run_count(job).packed()
 }
 
 // The number of a job's run, by its index from 0 in file order.
-#[unsafe(no_mangle)]
-pub extern "C" fn leverbonnet_run_number(job: &[u8], index: u16) -> u64
+pub fn leverbonnet_run_number(job: &[u8], index: u16) -> u64
     ensures { result ≡ packed (number_answer job.now index) }
 {
     counting::run_number(job, index).packed()
 }
 
 // The characters that the program `sheet` prints for a job that is read.
-#[unsafe(no_mangle)]
-pub extern "C" fn leverbonnet_sheet_text(job: &[u8], out: &mut [u8]) -> u64
+pub fn leverbonnet_sheet_text(job: &[u8], out: &mut [u8]) -> u64
     ensures { PrintsText none_supplied job.now out.old out.new result }
 {
     printed::sheet_text(steps::none(), job, out).packed()
 }
 
 // The same by a figure, which is judged before the job is read.
-#[unsafe(no_mangle)]
-pub extern "C" fn leverbonnet_sheet_text_by_figure(figure: &[u8], job: &[u8], out: &mut [u8]) -> u64
+pub fn leverbonnet_sheet_text_by_figure(figure: &[u8], job: &[u8], out: &mut [u8]) -> u64
     ensures { PrintsText (read_figure figure.now) job.now out.old out.new result }
 {
     printed::sheet_text_by_figure(figure, job, out).packed()
 }
 
 // Explains the finding of that rule at that place of the run of that number: 2 bytes, 34 bytes a condition, 5 bytes a certificate day.
-#[unsafe(no_mangle)]
-pub extern "C" fn leverbonnet_explain(
-    job: &[u8],
-    run: u16,
-    rule: u16,
-    place: u16,
-    out: &mut [u8],
-) -> u64
+pub fn leverbonnet_explain(job: &[u8], run: u16, rule: u16, place: u16, out: &mut [u8]) -> u64
     ensures { ExplainsFinding Bytes none_supplied job.now run rule place out.old out.new result }
 {
     explain(Form::Bytes, steps::none(), job, run, rule, place, out).packed()
 }
 
 // The same by a figure, which is judged before the job is read.
-#[unsafe(no_mangle)]
-pub extern "C" fn leverbonnet_explain_by_figure(
+pub fn leverbonnet_explain_by_figure(
     figure: &[u8],
     job: &[u8],
     run: u16,
@@ -104,22 +85,14 @@ pub extern "C" fn leverbonnet_explain_by_figure(
 }
 
 // The same as characters.
-#[unsafe(no_mangle)]
-pub extern "C" fn leverbonnet_explain_text(
-    job: &[u8],
-    run: u16,
-    rule: u16,
-    place: u16,
-    out: &mut [u8],
-) -> u64
+pub fn leverbonnet_explain_text(job: &[u8], run: u16, rule: u16, place: u16, out: &mut [u8]) -> u64
     ensures { ExplainsFinding Text none_supplied job.now run rule place out.old out.new result }
 {
     explain(Form::Text, steps::none(), job, run, rule, place, out).packed()
 }
 
 // The same by a figure, which is judged before the job is read.
-#[unsafe(no_mangle)]
-pub extern "C" fn leverbonnet_explain_text_by_figure(
+pub fn leverbonnet_explain_text_by_figure(
     figure: &[u8],
     job: &[u8],
     run: u16,
@@ -133,26 +106,14 @@ pub extern "C" fn leverbonnet_explain_text_by_figure(
 }
 
 // Lays out a round stack: points on the diameter, diameter in 0.1 in, nozzle in 0.001 in; 4 bytes a distance.
-#[unsafe(no_mangle)]
-pub extern "C" fn leverbonnet_round_layout(
-    points: u16,
-    diameter: u16,
-    nozzle: u16,
-    out: &mut [u8],
-) -> u64
+pub fn leverbonnet_round_layout(points: u16, diameter: u16, nozzle: u16, out: &mut [u8]) -> u64
     ensures { LaysOut (round_outcome points diameter nozzle (length out.old)) out.old out.new result }
 {
     layouts::round_layout(points, diameter, nozzle, out).packed()
 }
 
 // Lays out a rectangular stack: points of the grid, sides in 0.1 in; 4 bytes a distance, two distances a point.
-#[unsafe(no_mangle)]
-pub extern "C" fn leverbonnet_rect_layout(
-    points: u16,
-    first: u16,
-    second: u16,
-    out: &mut [u8],
-) -> u64
+pub fn leverbonnet_rect_layout(points: u16, first: u16, second: u16, out: &mut [u8]) -> u64
     ensures { LaysOut (rectangle_outcome points first second (length out.old)) out.old out.new result }
 {
     layouts::rectangle_layout(points, first, second, out).packed()
