@@ -5,7 +5,7 @@ use mathlib.Core.Bool.{Bool, true, false, true≢false, false≢true, not, ◌||
 use mathlib.Core.List.{List}
 use mathlib.Core.Logic.{◌⊎◌, inl, inr, ◌↔◌}
 use borrow.Author.Tests.{leb-false, le-leb, lt-leb, lt-ltb, le-ltb, ltb-true, ltb-false, ne_eqb, eqb-true, eqb-false, not-false}
-use borrow.Author.Rules.{zero≤}
+use Prim.Native.Nat.{zero-le}
 use native.Mathlib.Omega.{arith}
 use lib.Dec.{leb, ltb, eqb, lit≤}
 use lib.ListN.{length}
@@ -83,7 +83,7 @@ not_above s k low = le-ltb (number_of s k) (number_of s (suc k)) low
 -- the seconds are judged wrong where they are too many or not the same
 wrong_seconds_lem : (s : List ℕ) (k : ℕ) → (greatest_total_seconds < total_of_points s k) ⊎ (total_of_segments s k ≡ total_of_points s k → ⊥) → good_seconds s (run_start s k) (counts_of s k) ≡ false
 unfolding within
-wrong_seconds_lem s k (inl many) = rw (le-leb 0 (total_of_points s k) zero≤, lt-leb (total_of_points s k) greatest_total_seconds many)
+wrong_seconds_lem s k (inl many) = rw (le-leb 0 (total_of_points s k) zero-le, lt-leb (total_of_points s k) greatest_total_seconds many)
 wrong_seconds_lem s k (inr other) = rw (ne_eqb (total_of_segments s k) (total_of_points s k) other) (sym (and_false (total_seconds (total_of_points s k))))
 
 -- and where they are judged wrong, one or the other
@@ -93,7 +93,7 @@ seconds_wrong s k e = go (leb (total_of_points s k) greatest_total_seconds) refl
   where
     go : (t : Bool) → leb (total_of_points s k) greatest_total_seconds ≡ t → (greatest_total_seconds < total_of_points s k) ⊎ (total_of_segments s k ≡ total_of_points s k → ⊥)
     go false f = inl (leb-false _ _ f)
-    go true f = inr (eqb-false _ _ (rw (le-leb 0 (total_of_points s k) zero≤, f) at e))
+    go true f = inr (eqb-false _ _ (rw (le-leb 0 (total_of_points s k) zero-le, f) at e))
 
 -- the version is judged wrong where it is neither 1 nor 2 ..
 neither : (n : ℕ) → (n ≡ 1 → ⊥) → (n ≡ 2 → ⊥) → version n ≡ false

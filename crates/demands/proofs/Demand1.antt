@@ -70,8 +70,8 @@ module _ (c : Call) (kept : Promised c) where
   row_answered : (n p : ℕ) → RowApplies c n p → RefusedWith c n p
   row_answered n p row = refused_with (row_outcome c.figure c.job c.run (length c.lines_in) (length c.findings_in) row)
 
-  by_row : (n p : ℕ) → RowApplies c n p → CameTo c
-  by_row n p row = by_row n p row (row_answered n p row)
+  from_row : (n p : ℕ) → RowApplies c n p → CameTo c
+  from_row n p row = by_row n p row (row_answered n p row)
 
   -- a run is handed over where both outputs suffice
   reducing : GoodLent c.figure → job_trouble c.job ≡ Clear → (k : ℕ) → k < run_count_of c.job → (run_of c.job k).header.number ≡ c.run → sheet_size ≤ length c.lines_in → finding_size * (reduced_run (figure_in c.figure) c.job k).findings.count ≤ length c.findings_in → ReducesRun c k
@@ -95,23 +95,23 @@ module _ (c : Call) (kept : Promised c) where
       }
 
   by_room : GoodLent c.figure → job_trouble c.job ≡ Clear → (k : ℕ) → k < run_count_of c.job → (run_of c.job k).header.number ≡ c.run → (a b : Bool) → ltb (length c.lines_in) sheet_size ≡ a → ltb (length c.findings_in) (finding_size * (reduced_run (figure_in c.figure) c.job k).findings.count) ≡ b → CameTo c
-  by_room figure clear k inside number true b e f = by_row 9 0 (row9 figure (clear_job c.job clear) k inside number (inl (ltb-true _ _ e)))
-  by_room figure clear k inside number false true e f = by_row 9 0 (row9 figure (clear_job c.job clear) k inside number (inr (ltb-true _ _ f)))
+  by_room figure clear k inside number true b e f = from_row 9 0 (row9 figure (clear_job c.job clear) k inside number (inl (ltb-true _ _ e)))
+  by_room figure clear k inside number false true e f = from_row 9 0 (row9 figure (clear_job c.job clear) k inside number (inr (ltb-true _ _ f)))
   by_room figure clear k inside number false false e f = to_run k (reducing figure clear k inside number (ltb-false _ _ e) (ltb-false _ _ f))
 
   by_number : GoodLent c.figure → job_trouble c.job ≡ Clear → (which : Which) → run_named (run_of c.job) c.run (run_count_of c.job) ≡ which → CameTo c
-  by_number figure clear NoRun e = by_row 10 0 (row10 figure (clear_job c.job clear) (none_named (run_of c.job) c.run (run_count_of c.job) e))
+  by_number figure clear NoRun e = from_row 10 0 (row10 figure (clear_job c.job clear) (none_named (run_of c.job) c.run (run_count_of c.job) e))
   by_number figure clear (Index k) e =
       by_room figure clear k (found_inside (run_of c.job) c.run (run_count_of c.job) e) (named (run_of c.job) c.run (run_count_of c.job) e) _ _ refl refl
 
   by_trouble : GoodLent c.figure → (t : Trouble) → job_trouble c.job ≡ t → CameTo c
-  by_trouble figure (At n p) e = by_row n p (of_file figure (told_row c.job e))
+  by_trouble figure (At n p) e = from_row n p (of_file figure (told_row c.job e))
   by_trouble figure Clear e = by_number figure e (run_named (run_of c.job) c.run (run_count_of c.job)) refl
 
   by_figure : (t : Trouble) → (supplied c.figure).trouble ≡ t → CameTo c
   by_figure (At n p) e =
       let told = bad_lent c.figure e in
-      by_row 14 p (row14 told.bytes told.is told.bad)
+      from_row 14 p (row14 told.bytes told.is told.bad)
   by_figure Clear e = by_trouble (clear_lent c.figure e) (job_trouble c.job) refl
 
   pub came_to : CameTo c

@@ -86,7 +86,7 @@ checks_bad (r ∷ rs) {n} {p} e = go (λ t. checks_bad rs t) (met own (checks Cl
         well true e c = e
         well false e c = clear_not_at c refl
 
-pub bad_checks : {rs : List Row} {n p : ℕ} → FirstBad n p rs → checks Clear rs ≡ At n p
+pub bad_checks : {n p : ℕ} {rs : List Row} → FirstBad n p rs → checks Clear rs ≡ At n p
 unfolding checks
 bad_checks (here {r} {rs} not number place) =
     checks_first (first Clear (trouble_unless r.ok r.number r.place)) rs

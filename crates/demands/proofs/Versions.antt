@@ -10,7 +10,7 @@ use lib.Seq.{get_or-drop}
 use Rattle.fields.specs.declared.trouble.Trouble.{Trouble}
 use Rattle.fields.specs.declared.trouble.Trouble.TheVariants.{Clear}
 use Rattle.fields.specs.Numbers.{byte_at, u16_at, u32_at, i16_at}
-use Rattle.fields.specs.Trouble.{Row, field, checks, record_trouble}
+use Rattle.fields.specs.Trouble.{Row, field, unless, checks, record_trouble}
 use Rattle.fields.proofs.FirstTrouble.{clear_last}
 use Rattle.readings.specs.declared.headers.Version.{Version}
 use Rattle.readings.specs.declared.headers.Version.TheVariants.{One, Two}
@@ -63,7 +63,7 @@ laid_out v l fits s is =
 passed : (t : Trouble) (rs : List Row) (r : Row) (qs : List Row) → r.ok ≡ true → checks t (rs ++ (r ∷ qs)) ≡ checks t (rs ++ qs)
 unfolding checks
 passed t [] r qs good = rw good (ap (λ (u : Trouble). checks u qs) (clear_last t))
-passed t (p ∷ rs) r qs good = passed _ rs r qs good
+passed t (p ∷ rs) r qs good = passed (unless t p.ok p.number p.place) rs r qs good
 
 -- the rows of an identity without its letter's
 abbrev named : ℕ → Identity → List Row

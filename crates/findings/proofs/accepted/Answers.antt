@@ -1,5 +1,4 @@
 -- `accepted` is its definition. The invariant: none of the findings passed is a fault.
-use Prim.Native.Nat.{◌-◌}
 use mathlib.Core.Path.{◌≡◌}
 use native.Mathlib.Omega.{arith}
 use borrow.Author.Count.{below_none, below_more}

@@ -2,7 +2,7 @@
 use Prim.Native.Nat.{ℕ, ◌+◌, ◌≤◌, ◌<◌}
 use mathlib.Core.Path.{◌≡◌, ◌∙◌, sym, ap}
 use mathlib.Core.Bool.{Bool, true, true≢false}
-use mathlib.Core.List.{List, ◌++◌}
+use mathlib.Core.List.{◌++◌}
 use native.Mathlib.Nat.{le_refl, le_trans}
 use native.Mathlib.Omega.{arith}
 use lib.ListN.{length}
@@ -32,7 +32,7 @@ broken_of run beside rule i = broken (ground_of (part_of run rule i) beside rule
 part_is : (c : After-broken) → c.match-rule-add1.part ≡ part_of c.args.run (c.loop-done.done + 1) c.loop-i.i
 part_is c =
     elim c.match-rule-add1.branch [
-        in-10 w ↦ w.part-is ∙ part_point _ _ w.in-10.is
+      | in-10 w ↦ w.part-is ∙ part_point _ _ w.in-10.is
       | in-11 w ↦ w.part-is ∙ part_segment _ _ w.in-11.is
       | in-17 w ↦ w.part-is ∙ part_weighing _ _ w.in-17.is
       | in_default w ↦ w.part-is ∙ part_whole _ _ (omega arith) (omega arith) (omega arith)
@@ -132,16 +132,16 @@ loop-i-preserved c =
     let test = test_is judged in
     let is_broken = broken_of c.args.run c.beside_of-beside.result in
     elim c.if-broken.branch [
-        then-broken+else-finding-place w ↦ (
-          omega arith,
-          passed_more is_broken _ _ _ (λ broke at. w.if-finding-place.false (ap (λ (f : Finding). f.place) w.finding_at-finding.ensures ∙ at)) inv.1,
-          (λ fs s. rw (w.found-is, w.count-is) (entered_found _ is_broken fs _ _ (has_room judged w.if-broken.true) test w.if-broken.true w.finding_at-finding.ensures (inv.2 fs s))),
-        )
+      | then-broken+else-finding-place w ↦ (
+        omega arith,
+        passed_more is_broken _ _ _ (λ broke at. w.if-finding-place.false (ap (λ (f : Finding). f.place) w.finding_at-finding.ensures ∙ at)) inv.1,
+        (λ fs s. rw (w.found-is, w.count-is) (entered_found _ is_broken fs _ _ (has_room judged w.if-broken.true) test w.if-broken.true w.finding_at-finding.ensures (inv.2 fs s))),
+      )
       | else-broken w ↦ (
-          omega arith,
-          passed_more is_broken _ _ _ (λ broke at. true≢false (sym broke ∙ sym test ∙ w.if-broken.false)) inv.1,
-          (λ fs s. rw (w.found-is, w.count-is) (entered_passed _ is_broken fs _ _ test w.if-broken.false (inv.2 fs s))),
-        )
+        omega arith,
+        passed_more is_broken _ _ _ (λ broke at. true≢false (sym broke ∙ sym test ∙ w.if-broken.false)) inv.1,
+        (λ fs s. rw (w.found-is, w.count-is) (entered_passed _ is_broken fs _ _ test w.if-broken.false (inv.2 fs s))),
+      )
     ]
 
 pub loop-done-preserved : goal.loop-done-preserved

@@ -1,11 +1,10 @@
 -- The loop keeps the sum of the seconds passed, each below 65,536.
-use Prim.Native.Nat.{ℕ, ◌+◌, ◌*◌, ◌-◌, ◌≤◌, ◌<◌}
+use Prim.Native.Nat.{ℕ, ◌+◌, ◌*◌, ◌≤◌, ◌<◌}
 use mathlib.Core.Path.{sym, ◌∙◌, ap}
 use native.Mathlib.Nat.{le_antisymm, mul-le-mul_left, mul-suc}
 use native.Mathlib.Omega.{arith}
 use borrow.Author.Rules.{rules}
 use lib.ListN.{length}
-use Rattle.fields.specs.Numbers.{u16_at}
 use Rattle.fields.proofs.Tails.{u16_front}
 use Rattle.records.specs.Records.{sum_to}
 use Rattle.records.proofs.Sums.{sum_none, sum_more}

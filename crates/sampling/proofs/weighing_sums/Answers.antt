@@ -1,11 +1,11 @@
 -- One pass that sums second final weights and tares by index.
-use Prim.Native.Nat.{◌+◌, ◌-◌}
+use Prim.Native.Nat.{◌+◌}
 use native.Mathlib.Omega.{arith}
 use Rattle.readings.specs.Ranges.{greatest_weight}
 use Rattle.readings.proofs.Ranges.{within_greatest}
 use Rattle.values.proofs.Sums.{Summed, summed_none, summed_more, summed_all}
 use Rattle.sampling.specs.Sampling.{final_weights, tares}
-use Rattle.sampling.proofs.weighing_sums.Invariants.{second, tare}
+use Rattle.sampling.proofs.weighing_sums.Invariants.{second}
 use Rattle.sampling.proofs.weighing_sums.Goals as goal
 use Rattle.sampling.proofs.weighing_sums.Goals.{After-struct_known-1}
 

@@ -6,7 +6,6 @@ use Rattle.readings.specs.Ranges.{greatest_weight}
 use Rattle.records.specs.declared.Weighing.{Weighing}
 use Rattle.records.specs.Records.{no_weighing}
 use Rattle.values.proofs.Sums.{Summed}
-use Rattle.sampling.specs.Sampling.{tares}
 use Rattle.sampling.proofs.weighing_sums.Given as goal
 
 abbrev pub tare : List Weighing → ℕ → ℕ

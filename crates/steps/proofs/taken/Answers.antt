@@ -1,9 +1,8 @@
 -- The loop keeps the last step that the distance reaches of those tried.
-use Prim.Native.Nat.{◌-◌}
 use mathlib.Core.Path.{sym, ◌∙◌, ap}
 use native.Mathlib.Nat.{le_antisymm}
 use borrow.Author.Rules.{rules}
-use Rattle.steps.specs.Steps.{reaches, last_reached}
+use Rattle.steps.specs.Steps.{last_reached}
 use Rattle.steps.proofs.Taking.{taken_none, taken_reached, taken_passed}
 use Rattle.steps.proofs.taken.Goals as goal
 use Rattle.steps.proofs.taken.Goals.{then-reaches, else-reaches}
@@ -17,7 +16,7 @@ loop-i-preserved c =
     let told = c.reaches.ensures in (
       search rules,
       elim c.if-reaches.branch [
-          then-reaches w ↦ w.step-is ∙ taken_reached _ _ _ (sym told ∙ w.if-reaches.true)
+        | then-reaches w ↦ w.step-is ∙ taken_reached _ _ _ (sym told ∙ w.if-reaches.true)
         | else-reaches w ↦ w.step-is ∙ taken_passed _ _ _ tried.1 (sym told ∙ w.if-reaches.false)
       ],
     )

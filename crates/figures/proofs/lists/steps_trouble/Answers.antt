@@ -1,5 +1,4 @@
 -- The loop keeps that the steps passed are clear, and stops at the first that is not.
-use Prim.Native.Nat.{◌-◌}
 use mathlib.Core.Path.{sym, ◌∙◌}
 use borrow.Author.Rules.{rules}
 use Rattle.fields.proofs.FirstTrouble.{none_clear, goes_on, stops, ends}

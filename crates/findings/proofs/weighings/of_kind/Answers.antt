@@ -1,7 +1,5 @@
 -- `of_kind` is `of_kind`. The invariant: the number of that kind among the weighings passed, and no more than those.
-use Prim.Native.Nat.{◌-◌}
 use mathlib.Core.Path.{◌≡◌, ◌∙◌}
-use mathlib.Core.Logic.{⊎_elim}
 use native.Mathlib.Omega.{arith}
 use Rattle.findings.proofs.Counted.{kind_none, kind_counted, kind_passed}
 use Rattle.findings.proofs.weighings.of_kind.Goals as goal
@@ -29,7 +27,7 @@ pub loop-i-preserved : goal.loop-i-preserved
 loop-i-preserved c =
     let inv = c.loop-i.invariant in
     elim c.if-w-kind.branch [
-        then-w-kind w ↦ (omega arith, omega (arith, w.found-is), w.found-is ∙ kind_counted _ _ _ inv.2 w.if-w-kind.true)
+      | then-w-kind w ↦ (omega arith, omega (arith, w.found-is), w.found-is ∙ kind_counted _ _ _ inv.2 w.if-w-kind.true)
       | else-w-kind w ↦ (omega arith, omega (arith, w.found-is), w.found-is ∙ kind_passed _ _ _ inv.2 w.if-w-kind.false)
     ]
 

@@ -1,5 +1,4 @@
 -- The numbers of points one after another; those below n are passed.
-use Prim.Native.Nat.{◌-◌}
 use mathlib.Core.Path.{◌≡◌, sym}
 use native.Mathlib.Omega.{arith}
 use Rattle.grids.specs.Grids.{grid_numbers, next_of, next_grid}

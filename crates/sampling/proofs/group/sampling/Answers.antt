@@ -5,7 +5,6 @@ use Rattle.sampling.proofs.Together.{is_sampling}
 use mathlib.Core.Path.{◌∙◌, subst⁻¹}
 use mir.Facts.{to_z-of_z}
 use Rattle.sampling.specs.Promise.{CatchOk}
-use Rattle.sampling.specs.Sampling.{concentration}
 use Rattle.sampling.proofs.Difference.{catch_fits}
 use Rattle.sampling.proofs.group.sampling.Goals as goal
 
