@@ -1,13 +1,12 @@
 -- The loop keeps the run that has the number.
 use native.Mathlib.Omega.{arith}
-use mathlib.Core.Logic.{inl, inr, ⊎_elim}
+use mathlib.Core.Logic.{inl, inr}
 use mathlib.Core.Path.{◌≡◌, ◌∙◌, ap}
 use Rattle.fields.specs.Numbers.{u16_at}
 use Rattle.reduction.specs.Reducing.{run_named}
 use Rattle.job.proofs.ReadJobs.{few_runs, count_of_runs, start_of, number_left}
 use Rattle.reduction.proofs.Naming.{sought_none, sought_more}
 use native.Mathlib.Nat.{le_antisymm}
-use Prim.Native.Nat.{◌-◌}
 use Rattle.reduction.proofs.find_run.Goals as goal
 use Rattle.reduction.proofs.find_run.Goals.{then-u16_at-number, else-u16_at-number}
 
@@ -36,7 +35,7 @@ loop-k-preserved c =
       omega (arith, inside),
       sought_more _ _ _ _ c.loop-k.invariant.1 place (c.u16_at.ensures ∙ ap (λ t. u16_at t 0) c.tail.ensures)
           (elim c.if-u16_at-number.branch [
-              then-u16_at-number w ↦ inl (w.if-u16_at-number.true, w.found-is)
+            | then-u16_at-number w ↦ inl (w.if-u16_at-number.true, w.found-is)
             | else-u16_at-number w ↦ inr (w.if-u16_at-number.false, w.found-is)
           ]),
     )
