@@ -1,5 +1,5 @@
 -- The number fills the reply.
-use Rattle.std.proofs.Common.{rules, ◌≡◌, ℕ, ◌+◌, List, [], ◌++◌, length, take, drop, replicate, OnOk, subst, sym, ap, ◌∙◌, refl}
+use Rattle.std.proofs.Common.{rules, ◌≡◌, ℕ, replicate, OnOk, subst, ◌∙◌}
 use Rattle.std.specs.Io.KnownBytes.{Appends}
 use Rattle.output.specs.Bytes.{le}
 use Rattle.output.specs.Splice.{spliced}
