@@ -44,9 +44,18 @@ fn files(folder: &Path, ending: &str, into: &mut Vec<PathBuf>) -> io::Result<()>
     Ok(())
 }
 
-fn all(folder: &Path, ending: &str) -> io::Result<Vec<PathBuf>> {
+/// What a crate is made of. What rt makes of it lies beside these.
+const PARTS: [&str; 3] = ["src", "specs", "proofs"];
+
+/// The files of all crates with that ending.
+fn all(crates: &Path, names: &BTreeSet<String>, ending: &str) -> io::Result<Vec<PathBuf>> {
     let mut found = Vec::new();
-    files(folder, ending, &mut found)?;
+    for name in names {
+        let parts = PARTS.iter().map(|part| crates.join(name).join(part));
+        for folder in parts.filter(|folder| folder.is_dir()) {
+            files(&folder, ending, &mut found)?;
+        }
+    }
     Ok(found)
 }
 
@@ -223,9 +232,12 @@ fn imports(root: &Path, read: &[File]) -> Vec<String> {
 
 /// What is out of order in a project, a sentence each.
 pub fn complaints(root: &Path) -> io::Result<Vec<String>> {
-    let crates = root.join("crates");
+    let folder = root.join("crates");
+    let crates: BTreeSet<String> = fs::read_dir(&folder)?
+        .map(|entry| entry.map(|e| e.file_name().to_string_lossy().into_owned()))
+        .collect::<io::Result<_>>()?;
     let mut read = Vec::new();
-    for path in all(&crates, "antt")? {
+    for path in all(&folder, &crates, "antt")? {
         let text = fs::read_to_string(&path)?;
         let is_spec = path.components().any(|part| part.as_os_str() == "specs");
         read.push(File {
@@ -234,7 +246,7 @@ pub fn complaints(root: &Path) -> io::Result<Vec<String>> {
             is_spec,
         });
     }
-    for path in all(&crates, "rt")? {
+    for path in all(&folder, &crates, "rt")? {
         let text = fs::read_to_string(&path)?;
         read.push(File {
             source: Source::of_code(&text),
@@ -250,9 +262,6 @@ pub fn complaints(root: &Path) -> io::Result<Vec<String>> {
         roots.extend(cited.filter(|name| taken.contains(name.as_str())).cloned());
         roots.extend(file.source.told.iter().cloned());
     }
-    let crates: BTreeSet<String> = fs::read_dir(&crates)?
-        .map(|entry| entry.map(|e| e.file_name().to_string_lossy().into_owned()))
-        .collect::<io::Result<_>>()?;
     let mut found = doubled(root, &read, &crates);
     found.extend(idle(root, &read, &roots));
     found.extend(imports(root, &read));

@@ -174,6 +174,13 @@ fn what_is_handed_on_is_used() {
 }
 
 #[test]
+fn what_rt_makes_of_a_crate_is_not_read() {
+    let project = Project::new("made");
+    project.write("crates/one/out/rlib/one.rlib/specs/A.antt", SPEC);
+    assert_eq!(project.complaints(), [] as [&str; 0]);
+}
+
+#[test]
 fn the_program_says_it_and_fails() {
     let run = |project: &Path| {
         Command::new(env!("CARGO_BIN_EXE_definitions"))

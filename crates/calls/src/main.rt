@@ -17,8 +17,10 @@
 
 #![tactic(auto)]
 
-ghost use Rattle.std.specs.Prelude.{◌≡◌, ◌≤◌, min, length, take, replicate};
-ghost use Rattle.calls.specs.Requests.{Replied};
+ghost use Rattle.std.specs.Prelude.{◌≡◌, ◌≤◌, IfOk, OnOk, min, length, take, replicate};
+ghost use Rattle.std.specs.Io.KnownBytes.{Appends};
+ghost use Rattle.output.specs.Bytes.{le};
+ghost use Rattle.calls.specs.Requests.{Replied, Exchanged, Served};
 
 use fields::numbers;
 use leverbonnet::{
@@ -86,7 +88,9 @@ fn answer(
     }
 }
 
-fn write_answer<W: Write>(to: &mut W, answer: u64) -> io::Result<()> {
+fn write_answer<W: Write>(to: &mut W, answer: u64) -> io::Result<()>
+    ensures { OnOk result (Appends (W.contents to.old) (W.contents to.new) (le 8 answer)) }
+{
     let mut reply = [0u8; 8];
     output::put_number(&mut reply, 0, 8, answer);
     to.write_all(&reply)
@@ -102,7 +106,9 @@ fn exchange<R: Read, W: Write>(
     job: &mut [u8],
     first: &mut [u8],
     second: &mut [u8],
-) -> io::Result<()> {
+) -> io::Result<()>
+    ensures { OnOk result (Exchanged header.now figure.new job.new first.new second.new (R.remaining from.old) (R.remaining from.new) (W.contents to.old) (W.contents to.new)) }
+{
     read_full(from, figure)?;
     read_full(from, job)?;
     fill(first, header[1]);
@@ -113,7 +119,9 @@ fn exchange<R: Read, W: Write>(
 }
 
 // Answers one request, and says whether there was one.
-fn serve<R: Read, W: Write>(from: &mut R, to: &mut W) -> io::Result<bool> {
+fn serve<R: Read, W: Write>(from: &mut R, to: &mut W) -> io::Result<bool>
+    ensures { IfOk result (λ served. Served served (R.remaining from.old) (R.remaining from.new) (W.contents to.old) (W.contents to.new)) }
+{
     let mut header = [0u8; HEADER_SIZE];
     if read_full(from, &mut header)? < HEADER_SIZE {
         return Ok(false);

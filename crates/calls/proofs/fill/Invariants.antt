@@ -6,7 +6,7 @@ abbrev pub invariant-loop-i : goal.invariant-loop-i
 invariant-loop-i l = record {
   size : length l.output ≡ length l.initial.output;
   room : l.i ≤ length l.output;
-  filled : l.output ≡ replicate l.i l.fn.byte ++ drop l.i l.initial.output
+  filled : l.output ≡ replicate l.i l.fn.byte ++ drop l.i l.initial.output;
 }
 
 abbrev pub decreases-loop-i : goal.decreases-loop-i
