@@ -14,7 +14,7 @@ use std::fs;
 use std::io;
 use std::path::{Path, PathBuf};
 
-use source::{written, Import, Reach, Source};
+use source::{is_owed, written, Import, Reach, Source};
 
 /// A file of definitions and laws, or of code with its contracts.
 struct File {
@@ -208,17 +208,18 @@ fn imports(root: &Path, read: &[File]) -> Vec<String> {
                 ));
             }
         }
-        let used: BTreeSet<&str> = file
-            .source
-            .definitions
-            .iter()
-            .flat_map(|d| &d.cites)
-            .map(String::as_str)
-            .collect();
+        let definitions = &file.source.definitions;
+        let cites = definitions.iter().flat_map(|d| &d.cites);
+        let used: BTreeSet<&str> = cites.map(String::as_str).collect();
+        // What was known at a goal is asked for by its name behind a dot.
+        let fields = definitions.iter().flat_map(|d| &d.fields);
+        let asked: BTreeSet<&str> = fields.map(String::as_str).collect();
         let kept = file.source.imports.iter();
         let kept = kept.filter(|import| import.reach != Reach::Others);
-        for name in kept.flat_map(|import| &import.names) {
-            if !used.contains(written(name)) {
+        let taken = kept.flat_map(|import| import.names.iter().map(move |name| (import, name)));
+        for (import, name) in taken {
+            let is_asked = is_owed(import) && asked.contains(name.as_str());
+            if !is_asked && !used.contains(written(name)) {
                 found.push(format!(
                     "`{}` is imported by {} and not used.",
                     name,

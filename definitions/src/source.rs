@@ -10,6 +10,9 @@ pub struct Definition {
     pub name: String,
     pub cases: Vec<String>,
     pub cites: BTreeSet<String>,
+    /// What stands behind a dot: mostly fields, which are no names of their
+    /// own.
+    pub fields: BTreeSet<String>,
     /// Whether it is what Rattle asks for under its name: an invariant, a
     /// measure, or the answer to a goal.
     pub answers: bool,
@@ -59,29 +62,42 @@ pub fn written(name: &str) -> &str {
         .unwrap_or_default()
 }
 
-/// The names of a line. A field behind a dot is no name of its own, and a
-/// comment has none.
-fn names(line: &str) -> Vec<String> {
+/// The words of a line, and whether each stands behind a dot. A comment has
+/// none.
+fn words(line: &str) -> Vec<(String, bool)> {
     let code = match line.find("--") {
         Some(0) => "",
         Some(at) if line[..at].ends_with(char::is_whitespace) => &line[..at],
         _ => line,
     };
     let mut found = Vec::new();
-    let mut name = String::new();
+    let mut word = String::new();
     let mut field = false;
     for c in code.chars().chain([' ']) {
         if c.is_whitespace() || SIGNS.contains(c) {
-            if !name.is_empty() && !field {
-                found.push(name.clone());
+            if !word.is_empty() {
+                found.push((std::mem::take(&mut word), field));
             }
-            name.clear();
             field = c == '.';
         } else {
-            name.push(c);
+            word.push(c);
         }
     }
     found
+}
+
+/// The names of a line. A field behind a dot is no name of its own.
+fn names(line: &str) -> Vec<String> {
+    let words = words(line).into_iter();
+    words
+        .filter(|(_, field)| !field)
+        .map(|(name, _)| name)
+        .collect()
+}
+
+fn fields(line: &str) -> impl Iterator<Item = String> {
+    let words = words(line).into_iter();
+    words.filter(|(_, field)| *field).map(|(name, _)| name)
 }
 
 fn import(line: &str) -> Option<Import> {
@@ -107,6 +123,11 @@ fn import(line: &str) -> Option<Import> {
             .collect(),
         reach,
     })
+}
+
+/// Whether an import takes something of what a function's proof owes.
+pub fn is_owed(import: &Import) -> bool {
+    OWED.iter().any(|end| import.module.ends_with(end))
 }
 
 /// The name that an import line gives to what a function's proof owes, as
@@ -244,6 +265,7 @@ impl Source {
                         name,
                         cases: Vec::new(),
                         cites,
+                        fields: fields(line).collect(),
                         answers,
                     });
                     if !kind.is_empty() {
@@ -261,6 +283,7 @@ impl Source {
                 _ => {
                     if let Some(last) = source.definitions.last_mut() {
                         last.cites.extend(names(line));
+                        last.fields.extend(fields(line));
                     }
                 }
             }
@@ -284,6 +307,7 @@ impl Source {
                 name: String::new(),
                 cases: Vec::new(),
                 cites: contracts(&code).flat_map(names).collect(),
+                fields: contracts(&code).flat_map(fields).collect(),
                 answers: false,
             }],
             told: told(&code),

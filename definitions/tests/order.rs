@@ -166,6 +166,24 @@ fn what_a_tactic_is_told_serves() {
 }
 
 #[test]
+fn what_was_known_at_a_goal_is_used_behind_a_dot() {
+    let project = Project::new("known");
+    let known = PROOF.replace(
+        "use Rattle.one.proofs.f.Goals as goal",
+        "use Rattle.one.proofs.f.Goals as goal\nuse Rattle.one.proofs.f.Goals.{Else-a, Else-b}",
+    );
+    let known = known.replace(
+        "returns c = law",
+        "returns c = law (goal.at.returns c).Else-a",
+    );
+    project.write("crates/one/proofs/f/Answers.antt", &known);
+    assert_eq!(
+        project.complaints(),
+        ["`Else-b` is imported by crates/one/proofs/f/Answers.antt and not used."]
+    );
+}
+
+#[test]
 fn what_is_handed_on_is_used() {
     let project = Project::new("handed");
     let handed = format!("pub use Rattle.std.specs.Prelude.{{eqb}}\n{}", SPEC);
