@@ -1,6 +1,6 @@
 -- `put_decimal` writes the decimal number: its last digit behind the others.
-use Prim.Native.Nat.{ℕ, ◌+◌, ◌<◌}
-use mathlib.Core.Path.{◌≡◌, ap}
+use Prim.Native.Nat.{◌<◌}
+use mathlib.Core.Path.{ap}
 use native.Mathlib.Omega.{arith}
 use lib.ListN.{length}
 use Rattle.characters.proofs.Decimals.{decimal_few}

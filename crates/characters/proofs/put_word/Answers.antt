@@ -1,5 +1,4 @@
 -- The loop copies one character a turn.
-use Prim.Native.Nat.{◌-◌}
 use native.Mathlib.Omega.{arith}
 use Rattle.characters.proofs.Texts.{copied_none, copied_more, copied_all}
 use Rattle.characters.proofs.put_word.Goals as goal

@@ -1,6 +1,5 @@
 -- The loop writes one byte more a turn: the bytes so far are spliced in, and the rest is what is left of the value.
 use Rattle.output.proofs.Bytes.{written_none, written_length, written_more, written_all}
-use Prim.Native.Nat.{◌-◌}
 use native.Mathlib.Omega.{arith}
 use Rattle.output.proofs.put_number.Goals as goal
 

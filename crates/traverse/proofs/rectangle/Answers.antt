@@ -1,5 +1,5 @@
 -- Two loops, along the second side and, inside it, along the first: each turn of the inner one stores a point's two distances.
-use Prim.Native.Nat.{◌-◌, ◌≤◌, ◌<◌}
+use Prim.Native.Nat.{◌≤◌, ◌<◌}
 use native.Mathlib.Omega.{arith}
 use Rattle.arrays.proofs.Filled.{filled_none}
 use Rattle.distances.proofs.RectangleLaws.{rectangle_ok, CellsOk, cells_ok}

@@ -1,7 +1,6 @@
 -- The checks in order; the first that fails decides, and the width is asked last.
 use Prim.Native.Nat.{◌*◌, ◌≤◌}
 use mathlib.Core.Path.{refl, ◌∙◌, sym}
-use mathlib.Core.Bool.{true}
 use native.Mathlib.Nat.{mul-le-mul}
 use native.Mathlib.Omega.{arith}
 use Rattle.readings.proofs.EarlyAnswers.{fails, passes}

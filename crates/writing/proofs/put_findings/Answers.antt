@@ -1,5 +1,4 @@
 -- The loop writes one finding a turn.
-use Prim.Native.Nat.{◌-◌}
 use native.Mathlib.Omega.{arith}
 use Rattle.output.proofs.Records.{put_none, put_length, put_more, put_all}
 use Rattle.writing.specs.Bytes.{findings_bytes}

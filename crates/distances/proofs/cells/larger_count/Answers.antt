@@ -1,5 +1,5 @@
 -- The count rises until its square is not below the number of points; it never passes the larger count.
-use Prim.Native.Nat.{ℕ, ◌-◌, ◌*◌, ◌≤◌}
+use Prim.Native.Nat.{ℕ, ◌*◌, ◌≤◌}
 use mathlib.Core.Path.{◌≡◌}
 use mathlib.Core.Bool.{true}
 use native.Mathlib.Nat.{mul-le-mul}

@@ -1,6 +1,5 @@
 -- `broken` is its definition, case by case; signed numbers are read back from their bits.
 use borrow.Author.Rules.{rules}
-use native.Mathlib.Omega.{arith}
 use mathlib.Core.Path.{◌∙◌, ap}
 use mir.Facts.{to_z-of_z}
 use mir.Syntax.{w64}

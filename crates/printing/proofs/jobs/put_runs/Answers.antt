@@ -1,5 +1,4 @@
 -- The loop writes one run a turn.
-use Prim.Native.Nat.{◌-◌}
 use native.Mathlib.Omega.{arith}
 use Rattle.reduction.specs.Reducing.{ClearRun, reduced_run}
 use Rattle.job.proofs.ReadJobs.{count_of_runs, few_runs}

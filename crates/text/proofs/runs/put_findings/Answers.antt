@@ -1,5 +1,4 @@
 -- The loop writes one finding a turn.
-use Prim.Native.Nat.{◌-◌}
 use native.Mathlib.Omega.{arith}
 use lib.ListN.{get_or}
 use Rattle.findings.specs.Listing.{no_finding}

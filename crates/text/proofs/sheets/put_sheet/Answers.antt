@@ -1,5 +1,4 @@
 -- The loop writes one line a turn.
-use Prim.Native.Nat.{◌-◌}
 use native.Mathlib.Omega.{arith}
 use Rattle.lines.specs.Sheet.{line_count}
 use Rattle.output.specs.Bytes.{joined}
