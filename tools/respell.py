@@ -5,8 +5,8 @@ usage: tools/respell.py [--list]
 
 Run it at the top, behind port.py; a second run does nothing. A name in camel case or with dashes that a file of specs/ or a file of laws in proofs/
 declares is spelled in snake case wherever it stands: in the crates, in their must-fail edits, and between backticks in the pages.
-Names of types and modules, of functions of src/, of exports and of the library stay. Each crate is laid out
-by rt fmt afterwards. --list prints the table and writes nothing.
+Names of types and modules, of functions of src/, of exports and of the library stay. What a function's answers or invariants
+declare for themselves is spelled so in their folder and in the crate's edits. Each crate is laid out by rt fmt afterwards. --list prints the table and writes nothing.
 """
 
 import glob
@@ -46,6 +46,32 @@ def own_names():
             if m := HEAD.match(line) or DECLARED.match(line) or INSIDE.match(line):
                 names.setdefault(m[1], set()).add(file)
     return names
+
+
+def private_names(folder):
+    """The names with dashes that a function's answers or invariants declare for themselves, each with its new spelling."""
+    names = {}
+    for file in glob.glob(folder + "/Answers.antt") + glob.glob(folder + "/Invariants.antt"):
+        for line in open(file, encoding="utf-8"):
+            m = DECLARED.match(line) or INSIDE.match(line)
+            if m and "-" in m[1] and " : goal." not in line and not m[1][:1].isupper():
+                names[m[1]] = snake(m[1])
+    return names
+
+
+def turn_private():
+    for folder in sorted(glob.glob("crates/*/proofs/*/**/", recursive=True)):
+        names = private_names(folder.rstrip("/"))
+        if not names:
+            continue
+        crate = "/".join(folder.split("/")[:2])
+        for file in glob.glob(folder + "*.antt") + glob.glob(crate + "/must-fail/*.edit"):
+            text = open(file, encoding="utf-8").read()
+            word = re.compile(rf"(?<![\w'.-])(?:{'|'.join(map(re.escape, sorted(names, key=len, reverse=True)))})(?![\w'-])")
+            new = word.sub(lambda m: names[m[0]], text)
+            if new != text:
+                print(file, *sorted({m[0] for m in word.finditer(text)}))
+                open(file, "w", encoding="utf-8").write(new)
 
 
 def table(names):
@@ -88,8 +114,9 @@ def code(text, changes, comment):
 def main():
     names = own_names()
     changes = table(names)
+    turn_private()
     if not changes:
-        print("respell: every name has its spelling already")
+        print("respell: every other name has its spelling already")
         return
     met = {}
     for old in names:

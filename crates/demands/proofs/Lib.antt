@@ -11,6 +11,7 @@ pub mod Apart
 pub mod Demand1
 pub mod Succeeding
 pub mod Demand2
+pub mod SortedRule
 pub mod Sorted
 pub mod Demand3
 pub mod SameOutcomes

@@ -14,26 +14,26 @@ use Rattle.characters.proofs.Texts.{wrote_byte, wrote_more}
 use Rattle.characters.proofs.put_signed.Goals as goal
 
 -- the text of each sign
-with-dash : {z : ℤ} (s : Negative w64 z) → signed_decimal z ≡ 45 ∷ decimal (s.size + 1)
+with_dash : {z : ℤ} (s : Negative w64 z) → signed_decimal z ≡ 45 ∷ decimal (s.size + 1)
 unfolding signed_decimal
-with-dash s = rw s.is
+with_dash s = rw s.is
 
 without : {z : ℤ} (s : NotNegative w64 z) → signed_decimal z ≡ decimal s.size
 unfolding signed_decimal
 without s = rw s.is
 
-wrote-negative : {old : List ℕ} {at : ℕ} {z : ℤ} {mid out : List ℕ} {next : ℕ} (s : Negative w64 z) → Room old at (signed_decimal z) → mid ≡ spliced old at (45 ∷ []) → Wrote mid (at + 1) (decimal (s.size + 1)) out next → Wrote old at (signed_decimal z) out next
-wrote-negative s room e w =
-    let fits = rw (with-dash s) at room in
-    rw (with-dash s) (wrote_more (wrote_byte (omega arith) e) w fits)
+wrote_negative : {old : List ℕ} {at : ℕ} {z : ℤ} {mid out : List ℕ} {next : ℕ} (s : Negative w64 z) → Room old at (signed_decimal z) → mid ≡ spliced old at (45 ∷ []) → Wrote mid (at + 1) (decimal (s.size + 1)) out next → Wrote old at (signed_decimal z) out next
+wrote_negative s room e w =
+    let fits = rw (with_dash s) at room in
+    rw (with_dash s) (wrote_more (wrote_byte (omega arith) e) w fits)
 
 pub put_byte-requires : goal.put_byte-requires
 put_byte-requires c =
-    omega (arith, c.requires, ap length (with-dash (negative w64 _ c.ranges.value c.if-value-lt0.true)))
+    omega (arith, c.requires, ap length (with_dash (negative w64 _ c.ranges.value c.if-value-lt0.true)))
 
 pub overflow_add-at : goal.overflow_add-at
 overflow_add-at c =
-    omega (arith, c.requires, c.well_formed.0.0, ap length (with-dash (negative w64 _ c.ranges.value c.if-value-lt0.true)))
+    omega (arith, c.requires, c.well_formed.0.0, ap length (with_dash (negative w64 _ c.ranges.value c.if-value-lt0.true)))
 
 pub overflow_cast-below : goal.overflow_cast-below
 overflow_cast-below c =
@@ -46,13 +46,13 @@ overflow_add-below c =
 pub put_decimal-requires : goal.put_decimal-requires
 put_decimal-requires c =
     let s = (negative w64 _ c.ranges.value c.if-value-lt0.true) in
-    let size = ap length (with-dash s) in
+    let size = ap length (with_dash s) in
     let kept = (wrote_byte (omega (arith, c.requires, size)) c.put_byte.ensures).kept in
     rw s.shown (record { fits = omega (arith, kept, c.requires, size) })
 
 pub returns-then-value-lt0 : goal.returns-then-value-lt0
 returns-then-value-lt0 c =
-    wrote-negative (negative w64 _ c.ranges.value c.if-value-lt0.true) c.requires c.put_byte.ensures (let s = (negative w64 _ c.ranges.value c.if-value-lt0.true) in rw s.shown at c.put_decimal.ensures)
+    wrote_negative (negative w64 _ c.ranges.value c.if-value-lt0.true) c.requires c.put_byte.ensures (let s = (negative w64 _ c.ranges.value c.if-value-lt0.true) in rw s.shown at c.put_decimal.ensures)
 
 pub overflow_cast-value : goal.overflow_cast-value
 overflow_cast-value c =

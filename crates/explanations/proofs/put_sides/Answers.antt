@@ -10,20 +10,20 @@ use Rattle.explanations.proofs.put_sides.Goals as goal
 use Rattle.explanations.proofs.put_sides.Goals.{Start}
 
 -- room for the parts, and for the first of them
-room-for-two : (c : Start) → Room c.args.out.now c.args.at (day_in c.args.form c.args.kind before c.args.sides.before ++ day_in c.args.form c.args.kind after c.args.sides.after)
+room_for_two : (c : Start) → Room c.args.out.now c.args.at (day_in c.args.form c.args.kind before c.args.sides.before ++ day_in c.args.form c.args.kind after c.args.sides.after)
 unfolding sides_in
-room-for-two c =
+room_for_two c =
     c.requires
 
-room-for-one : (c : Start) → Room c.args.out.now c.args.at (day_in c.args.form c.args.kind before c.args.sides.before)
-room-for-one c =
-    room_front (day_in c.args.form c.args.kind before c.args.sides.before) (day_in c.args.form c.args.kind after c.args.sides.after) (room-for-two c)
+room_for_one : (c : Start) → Room c.args.out.now c.args.at (day_in c.args.form c.args.kind before c.args.sides.before)
+room_for_one c =
+    room_front (day_in c.args.form c.args.kind before c.args.sides.before) (day_in c.args.form c.args.kind after c.args.sides.after) (room_for_two c)
 
 pub put_day-next-requires : goal.put_day-next-requires
-put_day-next-requires c = room-for-one (goal.at.put_day-next-requires c).Start
+put_day-next-requires c = room_for_one (goal.at.put_day-next-requires c).Start
 
 pub put_day-requires : goal.put_day-requires
-put_day-requires c = room_behind _ c.put_day-next.ensures (room-for-two (goal.at.put_day-requires c).Start)
+put_day-requires c = room_behind _ c.put_day-next.ensures (room_for_two (goal.at.put_day-requires c).Start)
 
 pub shape_of-out : goal.shape_of-out
 shape_of-out c = search rules
@@ -31,4 +31,4 @@ shape_of-out c = search rules
 pub returns : goal.returns
 unfolding sides_in
 returns c =
-    wrote_more c.put_day-next.ensures c.put_day.ensures (room-for-two (goal.at.returns c).Start)
+    wrote_more c.put_day-next.ensures c.put_day.ensures (room_for_two (goal.at.returns c).Start)

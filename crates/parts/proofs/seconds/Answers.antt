@@ -12,22 +12,22 @@ use Rattle.parts.proofs.seconds.Goals as goal
 use Rattle.parts.proofs.seconds.Goals.{In-loop-i}
 
 -- a record before the last ends no later than the last
-ends-within : (size n i : ℕ) → i < n → size * i + size ≤ size * n
-ends-within size n i inside = let last = mul-le-mul_left size inside in omega (arith, mul-suc size i, last)
+ends_within : (size n i : ℕ) → i < n → size * i + size ≤ size * n
+ends_within size n i inside = let last = mul-le-mul_left size inside in omega (arith, mul-suc size i, last)
 
 -- so the next record's seconds lie within what is left
-record-left : (c : In-loop-i) → c.args.size * c.loop-i.i + 2 ≤ length c.args.t.now
-record-left c =
-    omega (arith, ends-within c.args.size c.args.n c.loop-i.i c.loop-i-test.true, c.requires.0, c.requires.3)
+record_left : (c : In-loop-i) → c.args.size * c.loop-i.i + 2 ≤ length c.args.t.now
+record_left c =
+    omega (arith, ends_within c.args.size c.args.n c.loop-i.i c.loop-i-test.true, c.requires.0, c.requires.3)
 
 pub loop-i-init : goal.loop-i-init
 loop-i-init c = (search rules, search rules, sum_none _)
 
 pub overflow_mul-size : goal.overflow_mul-size
-overflow_mul-size c = omega (arith, record-left c, c.well_formed.0.1)
+overflow_mul-size c = omega (arith, record_left c, c.well_formed.0.1)
 
 pub u16_at-requires : goal.u16_at-requires
-u16_at-requires c = record-left c
+u16_at-requires c = record_left c
 
 pub loop-i-preserved : goal.loop-i-preserved
 loop-i-preserved c =

@@ -19,9 +19,9 @@ use Rattle.findings.specs.declared.Sought.{Sought}
 use Rattle.reduction.specs.declared.Reduced.{Reduced}
 use Rattle.reduction.proofs.reduce.Goals as goal
 
-is-judged-run : (sought : Sought) (fig : Figure) {s : List ℕ} {v : Version} {j : Job} {k : ℕ} {r : Run} {done : Reduced} → v ≡ version_of s → ClearRun s j k → r ≡ run_at s (get_or j.starts k 0) → done ≡ judged sought v fig r (chosen_for (certificate_of s) j.certificates r.header) → done ≡ judged_run sought fig s k
+is_judged_run : (sought : Sought) (fig : Figure) {s : List ℕ} {v : Version} {j : Job} {k : ℕ} {r : Run} {done : Reduced} → v ≡ version_of s → ClearRun s j k → r ≡ run_at s (get_or j.starts k 0) → done ≡ judged sought v fig r (chosen_for (certificate_of s) j.certificates r.header) → done ≡ judged_run sought fig s k
 unfolding judged_run chosen_in
-is-judged-run sought fig {s} {v} {j} ev ok e ed =
+is_judged_run sought fig {s} {v} {j} ev ok e ed =
     ed ∙ rw (ev, this_run ok e, count_of_certificates s j ok.job)
 
 pub version-v-requires : goal.version-v-requires
@@ -50,4 +50,4 @@ work-requires c =
 
 pub returns : goal.returns
 returns c =
-    is-judged-run c.args.sought _ c.version-v.ensures c.requires.clear c.run.ensures c.work.ensures
+    is_judged_run c.args.sought _ c.version-v.ensures c.requires.clear c.run.ensures c.work.ensures

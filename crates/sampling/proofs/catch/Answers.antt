@@ -19,9 +19,9 @@ use Rattle.sampling.proofs.catch.Goals as goal
 fits : (a b : ℕ) → a ≤ 32000000 → b ≤ 32000099 → SFits w64 (to_z w64 a -ℤ to_z w64 b)
 fits a b ha hb = subst⁻¹ (SFits w64) (difference a b (omega arith) (omega arith)) (catch_fits _ (catch_ok a b ha hb))
 
-is-catch : (weighings : List Weighing) (n : ℕ) (acetone : Acetone) (s : WeighingSums) (d : ℕ) → AreWeighingSums weighings n s → Is 0 99 (deduction acetone) d → IsCatch (catch weighings n acetone) (to_z w64 (of_z w64 (to_z w64 s.finals -ℤ to_z w64 (s.tares + d))))
+is_catch : (weighings : List Weighing) (n : ℕ) (acetone : Acetone) (s : WeighingSums) (d : ℕ) → AreWeighingSums weighings n s → Is 0 99 (deduction acetone) d → IsCatch (catch weighings n acetone) (to_z w64 (of_z w64 (to_z w64 s.finals -ℤ to_z w64 (s.tares + d))))
 unfolding catch
-is-catch weighings n acetone s d sums id =
+is_catch weighings n acetone s d sums id =
     let finals = sums.finals in
     let tares = sums.tares in
     let small : s.tares + d ≤ 32000099 = omega (arith, tares.high, id.high) in
@@ -40,4 +40,4 @@ overflow_sub-result c =
     fits _ _ sums.finals.high taken
 
 pub returns : goal.returns
-returns c = is-catch _ _ _ _ _ c.weighing_sums-weighed.ensures c.deduction.ensures
+returns c = is_catch _ _ _ _ _ c.weighing_sums-weighed.ensures c.deduction.ensures

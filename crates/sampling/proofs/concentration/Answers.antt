@@ -12,8 +12,8 @@ use Rattle.arith.specs.Rounding.{round_div}
 use Rattle.sampling.proofs.concentration.Goals as goal
 use Rattle.sampling.proofs.concentration.Goals.{Else-caught-lt0}
 
-volume-least : (c : Else-caught-lt0) → least_dry_volume ≤ c.in-Known.volume
-volume-least c =
+volume_least : (c : Else-caught-lt0) → least_dry_volume ≤ c.in-Known.volume
+volume_least c =
     omega (arith, c.requires.1.known _ c.in-Known.is)
 
 pub returns-in_default : goal.returns-in_default
@@ -31,12 +31,12 @@ overflow_mul-caught c =
     let s = (caught _ c.requires.0 c.if-caught-lt0.false) in rw s.shown (omega (arith, (c.requires.0.most _ ((caught _ c.requires.0 c.if-caught-lt0.false)).is)))
 
 pub round_div-requires : goal.round_div-requires
-round_div-requires c = volume-least c
+round_div-requires c = volume_least c
 
 pub returns : goal.returns
 returns c =
     let s = (caught _ c.requires.0 c.if-caught-lt0.false) in
-    let enough = mul-le-mul_left 4937600000000 (volume-least (goal.at.returns c).Else-caught-lt0) in
+    let enough = mul-le-mul_left 4937600000000 (volume_least (goal.at.returns c).Else-caught-lt0) in
     is_known
-    (rounded 0 4937600000000 (volume-least (goal.at.returns c).Else-caught-lt0) (c.round_div.ensures ∙ ap (λ z. round_div (154300 * nat_abs z) c.in-Known.volume) s.shown) (omega arith) (omega (arith, (c.requires.0.most _ ((caught _ c.requires.0 c.if-caught-lt0.false)).is), enough)))
+    (rounded 0 4937600000000 (volume_least (goal.at.returns c).Else-caught-lt0) (c.round_div.ensures ∙ ap (λ z. round_div (154300 * nat_abs z) c.in-Known.volume) s.shown) (omega arith) (omega (arith, (c.requires.0.most _ ((caught _ c.requires.0 c.if-caught-lt0.false)).is), enough)))
     (concentration_known s.is c.in-Known.is)

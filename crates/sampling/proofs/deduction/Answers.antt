@@ -11,9 +11,9 @@ use Rattle.records.specs.InRange.{AcetoneOk}
 use Rattle.values.specs.Promise.{Is}
 use Rattle.sampling.proofs.deduction.Goals as goal
 
-is-deduction : (a : Acetone) (found r : ℕ) → AcetoneOk a → found ≡ round_div (a.residue * a.rinse) a.blank → r ≡ min found (a.rinse * a.density / 100000) → Is 0 99 (deduction a) r
+is_deduction : (a : Acetone) (found r : ℕ) → AcetoneOk a → found ≡ round_div (a.residue * a.rinse) a.blank → r ≡ min found (a.rinse * a.density / 100000) → Is 0 99 (deduction a) r
 unfolding deduction
-is-deduction a found r ok e er =
+is_deduction a found r ok e er =
     let is : r ≡ deduction a = er ∙ ap (λ x. min x (a.rinse * a.density / 100000)) e in
     record { is = is; low = omega arith; high = rw is (deduction_most a ok) }
 
@@ -27,4 +27,4 @@ pub overflow_mul-rinse : goal.overflow_mul-rinse
 overflow_mul-rinse c = omega (arith, density_product c.requires)
 
 pub returns : goal.returns
-returns c = is-deduction _ _ _ c.requires c.round_div-found.ensures c.smaller.ensures
+returns c = is_deduction _ _ _ c.requires c.round_div-found.ensures c.smaller.ensures

@@ -7,8 +7,8 @@ use Prim.Native.Nat.{◌+◌, ◌*◌, ◌≤◌}
 use Rattle.sampling.proofs.drawn_gas.Goals as goal
 use Rattle.sampling.proofs.drawn_gas.Goals.{In-Known}
 
-numerator-most : (c : In-Known) → 945 * c.args.temperature * (c.in-Known.volume + c.args.vapor) ≤ 35010353952000
-numerator-most c =
+numerator_most : (c : In-Known) → 945 * c.args.temperature * (c.in-Known.volume + c.args.vapor) ≤ 35010353952000
+numerator_most c =
     drawn_numerator c.requires.ranges.3 (omega (arith, ((c.requires.dry.known _ c.in-Known.is).1), c.requires.ranges.0))
 
 pub returns-in_default : goal.returns-in_default
@@ -18,10 +18,10 @@ pub overflow_add-volume : goal.overflow_add-volume
 overflow_add-volume c = omega (arith, ((c.requires.dry.known _ c.in-Known.is).1))
 
 pub overflow_mul-temperature-2 : goal.overflow_mul-temperature-2
-overflow_mul-temperature-2 c = omega (arith, numerator-most c)
+overflow_mul-temperature-2 c = omega (arith, numerator_most c)
 
 pub returns : goal.returns
 returns c =
     is_known
-    (rounded 0 19675261 (omega arith) c.round_div.ensures (omega arith) (omega (arith, numerator-most (goal.at.returns c).In-Known)))
+    (rounded 0 19675261 (omega arith) c.round_div.ensures (omega arith) (omega (arith, numerator_most (goal.at.returns c).In-Known)))
     (drawn_known _ _ _ c.in-Known.is)

@@ -10,8 +10,8 @@ use Prim.Native.Nat.{◌*◌, ◌≤◌}
 use Rattle.sampling.proofs.isokinetic.Goals as goal
 use Rattle.sampling.proofs.isokinetic.Goals.{Else-speed-eq0}
 
-gas-most : (c : Else-speed-eq0) → c.in-Known.gas ≤ 19675261
-gas-most c =
+gas_most : (c : Else-speed-eq0) → c.in-Known.gas ≤ 19675261
+gas_most c =
     (c.requires.drawn.known _ c.in-Known.is).1
 
 least : (c : Else-speed-eq0) → 5454 ≤ c.in-Known-velocity.speed * c.in-Known-area.opening * c.args.time
@@ -31,7 +31,7 @@ pub returns-then-speed-eq0 : goal.returns-then-speed-eq0
 returns-then-speed-eq0 c = is_unworked (isokinetic_still _ _ _ c.in-Known-velocity.is c.if-speed-eq0.true)
 
 pub overflow_mul-gas : goal.overflow_mul-gas
-overflow_mul-gas c = omega (arith, gas-most c)
+overflow_mul-gas c = omega (arith, gas_most c)
 
 pub overflow_mul-speed : goal.overflow_mul-speed
 overflow_mul-speed c =
@@ -50,5 +50,5 @@ returns c =
     let enough = mul-le-mul_left 2164495159515952 (least (goal.at.returns c).Else-speed-eq0) in
     let divided = c.divide.ensures in
     is_exact divided
-    (rounded 0 2164495159515952 (omega (arith, least (goal.at.returns c).Else-speed-eq0)) (ap (λ x. x.rounded) divided) (omega arith) (omega (arith, gas-most (goal.at.returns c).Else-speed-eq0, enough)))
+    (rounded 0 2164495159515952 (omega (arith, least (goal.at.returns c).Else-speed-eq0)) (ap (λ x. x.rounded) divided) (omega arith) (omega (arith, gas_most (goal.at.returns c).Else-speed-eq0, enough)))
     (isokinetic_known _ c.in-Known.is c.in-Known-velocity.is c.in-Known-area.is c.if-speed-eq0.false)

@@ -10,8 +10,8 @@ use Rattle.sampling.proofs.weighing_sums.Goals as goal
 use Rattle.sampling.proofs.weighing_sums.Goals.{After-struct_known-1}
 
 -- a turn adds the weighing's second final weight, and its tare
-next-finals : (c : After-struct_known-1) → Summed (second c.args.weighings) greatest_weight c.args.n (c.loop-i.finals + second c.args.weighings c.loop-i.i) (c.loop-i.i + 1)
-next-finals c =
+next_finals : (c : After-struct_known-1) → Summed (second c.args.weighings) greatest_weight c.args.n (c.loop-i.finals + second c.args.weighings c.loop-i.i) (c.loop-i.i + 1)
+next_finals c =
     let inside = c.loop-i-test.true in
     summed_more c.loop-i.invariant.0 inside
     (within_greatest _ _ _ (c.requires.each _ inside).second)
@@ -28,16 +28,16 @@ bounds-weighings-i c = omega (arith, c.requires.few)
 pub loop-i-preserved : goal.loop-i-preserved
 loop-i-preserved c =
     let inside = c.loop-i-test.true in (
-      next-finals (goal.at.loop-i-preserved c).After-struct_known-1,
+      next_finals (goal.at.loop-i-preserved c).After-struct_known-1,
       summed_more c.loop-i.invariant.1 inside
           (within_greatest _ _ _ (c.requires.each _ inside).tare),
     )
 
 pub overflow_cast-finals : goal.overflow_cast-finals
-overflow_cast-finals c = let after = next-finals c in omega (arith, after.most, after.past, c.requires.few)
+overflow_cast-finals c = let after = next_finals c in omega (arith, after.most, after.past, c.requires.few)
 
 pub overflow_add-finals : goal.overflow_add-finals
-overflow_add-finals c = let after = next-finals c in omega (arith, after.most, after.past, c.requires.few)
+overflow_add-finals c = let after = next_finals c in omega (arith, after.most, after.past, c.requires.few)
 
 pub overflow_cast-tares : goal.overflow_cast-tares
 overflow_cast-tares c =

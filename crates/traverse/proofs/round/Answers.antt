@@ -24,9 +24,9 @@ laid_more {n} {d} {z} {array} {i} a t few inside e =
       filled = rw (e, each_more (λ i. distance n d z i ∷ []) i) (filled_more (distance n d z (i + 1)) t.filled (omega arith));
     }
 
-laid-all : {n d z : ℕ} {array : List ℕ} {i : ℕ} → Laid n d z array i → n ≤ i → IsLayout (round_layout n d z) (record { count = n; distances = array })
+laid_all : {n d z : ℕ} {array : List ℕ} {i : ℕ} → Laid n d z array i → n ≤ i → IsLayout (round_layout n d z) (record { count = n; distances = array })
 unfolding round_layout
-laid-all {n} {d} {z} {array} {i} t end =
+laid_all {n} {d} {z} {array} {i} t end =
     let all : i ≡ n = le_antisymm t.past end in
     let filled : Filled most_distances 0 (each_to (λ i. distance n d z i ∷ []) n) n array = rw all at t.filled in
     record { count = filled.count; distances = filled.holds }
@@ -60,4 +60,4 @@ pub loop-i-smaller : goal.loop-i-smaller
 loop-i-smaller c = omega arith
 
 pub returns : goal.returns
-returns c = laid-all c.loop-i.invariant c.loop-i-test.false
+returns c = laid_all c.loop-i.invariant c.loop-i-test.false

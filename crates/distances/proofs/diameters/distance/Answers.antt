@@ -10,9 +10,9 @@ use Rattle.distances.specs.Round.{margin, kept, measured, distance}
 use Rattle.distances.proofs.RoundLaws.{RoundOk, round_ok, margin_half, kept_most}
 use Rattle.distances.proofs.diameters.distance.Goals as goal
 
-is-distance : {n d z : ℕ} (i : ℕ) {p x m r : ℕ} → RoundOk n d z → p ≡ position n i → x ≡ round_div (p * d) 10 → m ≡ margin d z → r ≡ kept m (100 * d) x → AtMost 999900 (distance n d z i) r
+is_distance : {n d z : ℕ} (i : ℕ) {p x m r : ℕ} → RoundOk n d z → p ≡ position n i → x ≡ round_div (p * d) 10 → m ≡ margin d z → r ≡ kept m (100 * d) x → AtMost 999900 (distance n d z i) r
 unfolding distance measured
-is-distance {n} {d} {z} i {r = r} ok ep ex em er =
+is_distance {n} {d} {z} i {r = r} ok ep ex em er =
     let e : r ≡ kept (margin d z) (100 * d) (round_div (position n i * d) 10) = rw (er, em, ex, ep) in
     record {
       is = e;
@@ -37,4 +37,4 @@ kept-requires c = omega (arith, c.margin.ensures.high, (round_ok _ _ _ c.require
 
 pub returns : goal.returns
 returns c =
-    is-distance _ (round_ok _ _ _ c.requires.layout) c.position.ensures.is c.round_div-measured.ensures c.margin.ensures.is c.kept.ensures
+    is_distance _ (round_ok _ _ _ c.requires.layout) c.position.ensures.is c.round_div-measured.ensures c.margin.ensures.is c.kept.ensures

@@ -17,13 +17,13 @@ use Rattle.job.proofs.runs.good_seconds.Goals as goal
 use Rattle.job.proofs.runs.good_seconds.Goals.{After-tail, After-tail-2}
 
 -- where the points stand, and the segments
-points-at : (c : After-tail) → c.tail.result.now ≡ drop (c.args.start + run_header_size (version_of c.args.s.now)) c.args.s.now
-points-at c =
+points_at : (c : After-tail) → c.tail.result.now ≡ drop (c.args.start + run_header_size (version_of c.args.s.now)) c.args.s.now
+points_at c =
     let a = c.args in
     c.tail.ensures ∙ ap (λ (n : ℕ). drop (a.start + n) a.s.now) ((c.size.ensures ∙ ap run_header_size c.requires.0))
 
-segments-at : (c : After-tail-2) → c.tail-2.result.now ≡ drop (c.args.start + run_header_size (version_of c.args.s.now) + point_size * c.args.n.points) c.args.s.now
-segments-at c =
+segments_at : (c : After-tail-2) → c.tail-2.result.now ≡ drop (c.args.start + run_header_size (version_of c.args.s.now) + point_size * c.args.n.points) c.args.s.now
+segments_at c =
     let a = c.args in
     c.tail-2.ensures ∙ ap (λ (n : ℕ). drop (a.start + n + point_size * a.n.points) a.s.now) ((c.size.ensures ∙ ap run_header_size c.requires.0))
 
@@ -43,7 +43,7 @@ pub returns-then-not-check : goal.returns-then-not-check
 returns-then-not-check c =
     let check = c.check in
     let a = c.args in
-    let by-points = summed (λ (t : List ℕ). (point t).seconds) point_size a.s.now _ a.n.points c.seconds-by_points.ensures (points-at (goal.at.returns-then-not-check c).After-tail) in
+    let by-points = summed (λ (t : List ℕ). (point t).seconds) point_size a.s.now _ a.n.points c.seconds-by_points.ensures (points_at (goal.at.returns-then-not-check c).After-tail) in
     fails (check.ensures ∙ ap total_seconds by-points) c.if-not-check.true _
 
 pub returns : goal.returns
@@ -52,6 +52,6 @@ returns c =
     let a = c.args in
     let s = a.s.now in
     let n = a.n in
-    let by-points = summed (λ (t : List ℕ). (point t).seconds) point_size s _ n.points c.seconds-by_points.ensures (points-at (goal.at.returns c).After-tail) in
-    let by-segments = summed (λ (t : List ℕ). (segment t).seconds) segment_size s _ n.segments c.seconds-by_segments.ensures (segments-at (goal.at.returns c).After-tail-2) in
+    let by-points = summed (λ (t : List ℕ). (point t).seconds) point_size s _ n.points c.seconds-by_points.ensures (points_at (goal.at.returns c).After-tail) in
+    let by-segments = summed (λ (t : List ℕ). (segment t).seconds) segment_size s _ n.segments c.seconds-by_segments.ensures (segments_at (goal.at.returns c).After-tail-2) in
     passes (check.ensures ∙ ap total_seconds by-points) c.if-not-check.false (ap₂ eqb by-segments by-points)

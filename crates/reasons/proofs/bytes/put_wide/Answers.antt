@@ -16,8 +16,8 @@ use Rattle.reasons.proofs.bytes.put_wide.Goals as goal
 fits : {old : List ℕ} {at : ℕ} (width n : ℕ) → Room old at (le width n) → at + width ≤ length old
 fits width n room = omega (arith, room.fits, length_le width n)
 
-number-written : {old : List ℕ} {at : ℕ} {out : List ℕ} (width n : ℕ) → Room old at (le width n) → out ≡ spliced old at (le width n) → Wrote old at (le width n) out (at + width)
-number-written {old} {at} width n room e =
+number_written : {old : List ℕ} {at : ℕ} {out : List ℕ} (width n : ℕ) → Room old at (le width n) → out ≡ spliced old at (le width n) → Wrote old at (le width n) out (at + width)
+number_written {old} {at} width n room e =
     record { is = e; after = ap (λ k. at + k) (sym (length_le width n)); kept = ap length e ∙ length_spliced old at (le width n) room.fits }
 
 pub put_number-requires : goal.put_number-requires
@@ -30,4 +30,4 @@ pub shape_of-out : goal.shape_of-out
 shape_of-out c = search rules
 
 pub returns : goal.returns
-returns c = number-written _ _ c.requires c.put_number.ensures
+returns c = number_written _ _ c.requires c.put_number.ensures

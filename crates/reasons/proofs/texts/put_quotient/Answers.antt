@@ -9,32 +9,32 @@ use Rattle.reasons.proofs.texts.put_quotient.Goals as goal
 use Rattle.reasons.proofs.texts.put_quotient.Goals.{Start}
 
 -- room for the parts, and for the first of them
-room-for-three : (c : Start) → Room c.args.out.now c.args.at (decimal c.args.n ++ spelled " REMAINDER " ++ decimal c.args.remainder)
+room_for_three : (c : Start) → Room c.args.out.now c.args.at (decimal c.args.n ++ spelled " REMAINDER " ++ decimal c.args.remainder)
 unfolding number_text signed_decimal
-room-for-three c =
+room_for_three c =
     c.requires
 
-room-for-two : (c : Start) → Room c.args.out.now c.args.at (decimal c.args.n ++ spelled " REMAINDER ")
-room-for-two c =
-    room_front (decimal c.args.n ++ spelled " REMAINDER ") (decimal c.args.remainder) (room-for-three c)
+room_for_two : (c : Start) → Room c.args.out.now c.args.at (decimal c.args.n ++ spelled " REMAINDER ")
+room_for_two c =
+    room_front (decimal c.args.n ++ spelled " REMAINDER ") (decimal c.args.remainder) (room_for_three c)
 
 pub put_decimal-a-requires : goal.put_decimal-a-requires
 unfolding spelled
 put_decimal-a-requires c =
-    (room_front (decimal c.args.n) (spelled " REMAINDER ") (room-for-two (goal.at.put_decimal-a-requires c).Start))
+    (room_front (decimal c.args.n) (spelled " REMAINDER ") (room_for_two (goal.at.put_decimal-a-requires c).Start))
 
 pub put_word-b-requires : goal.put_word-b-requires
 unfolding spelled
-put_word-b-requires c = room_behind _ c.put_decimal-a.ensures (room-for-two (goal.at.put_word-b-requires c).Start)
+put_word-b-requires c = room_behind _ c.put_decimal-a.ensures (room_for_two (goal.at.put_word-b-requires c).Start)
 
 pub put_decimal-requires : goal.put_decimal-requires
 unfolding spelled
 put_decimal-requires c =
-    let after_two = wrote_more c.put_decimal-a.ensures c.put_word-b.ensures (room-for-two (goal.at.put_decimal-requires c).Start) in
-    room_behind _ (after_two) (room-for-three (goal.at.put_decimal-requires c).Start)
+    let after_two = wrote_more c.put_decimal-a.ensures c.put_word-b.ensures (room_for_two (goal.at.put_decimal-requires c).Start) in
+    room_behind _ (after_two) (room_for_three (goal.at.put_decimal-requires c).Start)
 
 pub returns : goal.returns
 unfolding number_text signed_decimal spelled
 returns c =
-    let after_two = wrote_more c.put_decimal-a.ensures c.put_word-b.ensures (room-for-two (goal.at.returns c).Start) in
-    wrote_more (after_two) c.put_decimal.ensures (room-for-three (goal.at.returns c).Start)
+    let after_two = wrote_more c.put_decimal-a.ensures c.put_word-b.ensures (room_for_two (goal.at.returns c).Start) in
+    wrote_more (after_two) c.put_decimal.ensures (room_for_three (goal.at.returns c).Start)

@@ -14,9 +14,9 @@ use Rattle.text.specs.Sheets.{value_text}
 use Rattle.text.proofs.sheets.put_value.Goals as goal
 
 -- the text of a line that is there
-present-text : {line : Line} {z : ℤ} → line ≡ Present z → mag z < 2 ^ 63 → value_text line ≡ signed_decimal (to_z w64 (of_z w64 z))
+present_text : {line : Line} {z : ℤ} → line ≡ Present z → mag z < 2 ^ 63 → value_text line ≡ signed_decimal (to_z w64 (of_z w64 z))
 unfolding value_text
-present-text e small = rw (e, to_z-of_z {w = w64} (record { sfits = small }))
+present_text e small = rw (e, to_z-of_z {w = w64} (record { sfits = small }))
 
 pub put_word-requires : goal.put_word-requires
 unfolding value_text
@@ -27,8 +27,8 @@ unfolding value_text
 returns-in_default c = rw c.in_default.is c.put_word.ensures
 
 pub put_signed-requires : goal.put_signed-requires
-put_signed-requires c = rw (present-text c.in-Present.is (omega arith)) at c.requires
+put_signed-requires c = rw (present_text c.in-Present.is (omega arith)) at c.requires
 
 pub returns : goal.returns
 returns c =
-    rw (present-text c.in-Present.is (omega arith)) c.put_signed.ensures
+    rw (present_text c.in-Present.is (omega arith)) c.put_signed.ensures
