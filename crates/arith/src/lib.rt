@@ -1,32 +1,11 @@
-// The ground floor: rounded division and the nearest root, each once for every unit, and three small choices.
+// The ground floor: rounded division and the nearest root, each once for every unit.
 // Nothing here knows of stacks or meters. The layers above rely on `round_div` and `nearest_root` and their laws.
 
 #![tactic(auto)]
 
-ghost use Rattle.std.specs.Prelude.{◌≡◌, ◌-◌, ◌<◌, min, max};
+ghost use Rattle.std.specs.Prelude.{◌≡◌, ◌<◌};
 ghost use Rattle.arith.specs.Rounding.{round_div, division};
 ghost use Rattle.arith.specs.Root.{nearest_root, whole_root, first_bound};
-
-// What is left of a after b is taken, 0 where b is more.
-pub fn less(a: u64, b: u64) -> u64
-    ensures { result ≡ a - b }
-{
-    if b <= a { a - b } else { 0 }
-}
-
-// The smaller of two numbers.
-pub fn smaller(a: u64, b: u64) -> u64
-    ensures { result ≡ min a b }
-{
-    if a <= b { a } else { b }
-}
-
-// The larger of two numbers.
-pub fn larger(a: u64, b: u64) -> u64
-    ensures { result ≡ max a b }
-{
-    if a <= b { b } else { a }
-}
 
 // A division: the whole quotient, the remainder, and the nearest whole number, halves upward.
 #[derive(Clone, Copy)]
@@ -60,8 +39,7 @@ pub fn round_div(n: u64, d: u64) -> u64
     requires { 0 < d }
     ensures { result ≡ round_div n d }
 {
-    let divided = divide(n, d);
-    divided.rounded
+    divide(n, d).rounded
 }
 
 // The whole number nearest half the square root of y: of a whole number x, the root is nearest_root(4 x).

@@ -1,34 +1,29 @@
 -- What comes of the call for one of a run's findings, explained: decided by the figure, by the job and by the length of the output, before
 -- a byte of it is written.
-use Rattle.std.specs.Prelude.{ℕ, List, length}
-use Rattle.fields.specs.declared.trouble.Trouble.{Trouble}
-use Rattle.fields.specs.declared.trouble.Trouble.TheVariants.{Clear, At}
+use Rattle.std.specs.Prelude.{Option, Some, None, ℕ, List, length}
+use Rattle.explaining.specs.declared.Explanation.{Explanation}
+use Rattle.fields.specs.Trouble.{Trouble, Clear, At}
 use Rattle.steps.specs.declared.Figure.{Figure}
-use Rattle.figures.specs.declared.Supplied.{Supplied}
+use Rattle.figures.specs.Figures.{Supplied}
 use Rattle.opening.specs.Opening.{run_count_of}
 use Rattle.job.specs.Places.{run_of}
 use Rattle.job.specs.Troubles.{job_trouble}
-use Rattle.reduction.specs.declared.Which.{Which}
-use Rattle.reduction.specs.declared.Which.TheVariants.{Index, NoRun}
 use Rattle.reduction.specs.Reducing.{run_named}
-use Rattle.output.specs.declared.Answer.{Answer}
-use Rattle.output.specs.Answers.{unknown_run, unknown_finding}
+use Rattle.output.specs.Answers.{Answer, unknown_run, unknown_finding}
 use Rattle.printed.specs.Printing.{Printing, unprinted, if_fits, unprinted_if_bad, Printed}
-use Rattle.explaining.specs.declared.Explained.{Explained}
-use Rattle.explaining.specs.declared.Explained.TheVariants.{NoFinding, Because}
 use Rattle.explaining.specs.Explaining.{explained_run}
 use Rattle.forms.specs.declared.Form.{Form}
 use Rattle.explanations.specs.Written.{written}
 
 -- 15: the run does not have that finding; 9: the output is shorter than its explanation
-unfoldable pub of_explained : Form → Explained → ℕ → Printing
-of_explained form NoFinding room = unprinted unknown_finding 0
-of_explained form (Because e) room = if_fits (written form e) room
+unfoldable pub of_explained : Form → Option Explanation → ℕ → Printing
+of_explained form None room = unprinted unknown_finding 0
+of_explained form (Some e) room = if_fits (written form e) room
 
 -- 10: no run of that number
-abbrev pub of_named_run : Form → Figure → List ℕ → Which → ℕ → ℕ → ℕ → Printing
-of_named_run form fig s NoRun rule place room = unprinted unknown_run 0
-of_named_run form fig s (Index k) rule place room = of_explained form (explained_run fig s k rule place) room
+abbrev pub of_named_run : Form → Figure → List ℕ → Option ℕ → ℕ → ℕ → ℕ → Printing
+of_named_run form fig s None rule place room = unprinted unknown_run 0
+of_named_run form fig s (Some k) rule place room = of_explained form (explained_run fig s k rule place) room
 
 -- the reader's 1 to 8 come first
 abbrev pub unless_job_trouble : Form → Trouble → Figure → List ℕ → ℕ → ℕ → ℕ → ℕ → Printing

@@ -1,4 +1,4 @@
-// The calls for one of a run's findings, explained, by a figure or without one, with their answer as an enum.
+// The calls for one of a run's findings, explained, by a figure or without one.
 // Relies on the reader, on a finding's explanation, on how it is written and on how a text is handed over.
 
 #![tactic(auto)]
@@ -6,32 +6,27 @@
 ghost use Rattle.figures.specs.Figures.{read_figure};
 ghost use Rattle.printed.specs.Printing.{HandsOver};
 ghost use Rattle.explanations.specs.Written.{written};
+ghost use Rattle.output.specs.Answers.{answer_told};
 ghost use Rattle.asking.specs.Outcomes.{Explains, ExplainsBy};
 
-use characters::put_word;
-use explaining::{Explained, Explanation, explain_run};
+use explaining::{Explanation, explain_run};
 use explanations::put_explanation;
-use fields::trouble::Trouble;
 use forms::Form;
-use output::Answer;
-use reduction::{Which, find_run};
+use output::Refusal;
+use reduction::find_run;
+use refusals::Reason;
 use steps::Figure;
 
 // Room for any explanation, as bytes or as text.
 const ROOM: usize = 1024;
 
-// Hands an explanation over, by way of a buffer with room for any: how long it is shows only once it is written, and an output that
-// turns out too short stays as it was.
-fn hand_over(form: Form, e: Explanation, out: &mut [u8]) -> Answer
-    ensures { HandsOver (written form e) out.old out.new result }
+// An explanation, by way of a buffer with room for any.
+fn put_by_way(form: Form, e: Explanation, out: &mut [u8]) -> Result<u32, Refusal>
+    ensures { HandsOver (written form e) out.old out.new (answer_told result) }
 {
     let mut way = [0u8; ROOM];
     let end = put_explanation(form, &mut way, e);
-    if out.len() < end {
-        return Answer::Refused(Answer::SHORT_OUTPUT, 0);
-    }
-    put_word(out, 0, &way[..end]);
-    Answer::Done(end as u32)
+    printed::hand_over(&way[..end], out)
 }
 
 // Explains a finding of the run of that number, by a figure, into an output of any length, or refuses before a byte is written.
@@ -43,23 +38,13 @@ pub fn explain(
     rule: u16,
     place: u16,
     out: &mut [u8],
-) -> Answer
-    ensures { Explains form figure job.now run rule place out.old out.new result }
+) -> Result<u32, Refusal>
+    ensures { Explains form figure job.now run rule place out.old out.new (answer_told result) }
 {
-    let read = job::read(job);
-    let trouble = read.trouble;
-    if let Trouble::At(number, at) = trouble {
-        return Answer::Refused(number, at as u32);
-    }
-    let which = find_run(job, read, run);
-    let Which::Index(k) = which else {
-        return Answer::Refused(Answer::UNKNOWN_RUN, 0);
-    };
-    let explained = explain_run(job, read, figure, k, rule, place);
-    let Explained::Because(e) = explained else {
-        return Answer::Refused(Answer::UNKNOWN_FINDING, 0);
-    };
-    hand_over(form, e, out)
+    let read = job::read(job)?;
+    let k = find_run(job, read, run).ok_or(Reason::UnknownRun)?;
+    let e = explain_run(job, read, figure, k, rule, place).ok_or(Reason::UnknownFinding)?;
+    put_by_way(form, e, out)
 }
 
 // The same by the figure in a file, which is judged before the job is read.
@@ -71,13 +56,8 @@ pub fn explain_by_figure(
     rule: u16,
     place: u16,
     out: &mut [u8],
-) -> Answer
-    ensures { ExplainsBy form (read_figure figure.now) job.now run rule place out.old out.new result }
+) -> Result<u32, Refusal>
+    ensures { ExplainsBy form (read_figure figure.now) job.now run rule place out.old out.new (answer_told result) }
 {
-    let supplied = figures::read(figure);
-    let trouble = supplied.trouble;
-    if let Trouble::At(number, at) = trouble {
-        return Answer::Refused(number, at as u32);
-    }
-    explain(form, supplied.figure, job, run, rule, place, out)
+    explain(form, figures::read(figure)?, job, run, rule, place, out)
 }

@@ -17,7 +17,7 @@
 
 #![tactic(auto)]
 
-ghost use Rattle.std.specs.Prelude.{◌≡◌, ◌≤◌, IfOk, OnOk, min, length, take, replicate};
+ghost use Rattle.std.specs.Prelude.{◌≡◌, ◌≤◌, IfOk, OnOk, min, length, take};
 ghost use Rattle.std.specs.Io.KnownBytes.{Appends};
 ghost use Rattle.output.specs.Bytes.{le};
 ghost use Rattle.calls.specs.Requests.{Replied, Exchanged, Served};
@@ -42,18 +42,7 @@ fn within(size: usize, buf: &[u8]) -> usize
     ensures taken { result ≡ length (take result buf.now) }
     ensures value { result ≡ min size (length buf.now) }
 {
-    if size < buf.len() { size } else { buf.len() }
-}
-
-// Every byte of the output is `byte` afterwards.
-fn fill(output: &mut [u8], byte: u8)
-    ensures { output.new ≡ replicate (length output.old) byte }
-{
-    let mut i = 0;
-    while i < output.len() {
-        output[i] = byte;
-        i += 1;
-    }
+    size.min(buf.len())
 }
 
 // The answer of the call that a header names, 0 where there is no such call. What the call does not write stays
@@ -111,8 +100,8 @@ fn exchange<R: Read, W: Write>(
 {
     read_full(from, figure)?;
     read_full(from, job)?;
-    fill(first, header[1]);
-    fill(second, header[1]);
+    first.fill(header[1]);
+    second.fill(header[1]);
     write_answer(to, answer(header, figure, job, first, second))?;
     to.write_all(first)?;
     to.write_all(second)

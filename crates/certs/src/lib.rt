@@ -3,89 +3,43 @@
 
 #![tactic(auto)]
 
-ghost use Rattle.std.specs.Prelude.{◌≡◌, ◌≤◌, length};
-ghost use Rattle.opening.specs.Opening.{version_of};
-ghost use Rattle.heads.specs.Values.{certificate_place, certificate_of};
+ghost use Rattle.std.specs.Prelude.{◌≡◌};
+ghost use Rattle.heads.specs.Values.{certificate_of};
 ghost use Rattle.choosing.specs.Choosing.{chosen, chosen_for};
 
-use choosing::{Chosen, Lookup, replaces};
-use heads::certificate;
+use choosing::{Chosen, Wanted};
+use heads::certificate::Certificates;
 use readings::certificates::CertificateKind;
-use readings::headers::Version;
-use records::{Identity, RunHeader};
+use records::{Certificate, RunHeader};
 
-// Of the first `count` certificates of a file, the one of that kind and identity that is dated nearest the day, on the asked side of it.
-// The best so far is kept as how many certificates there are up to it, 0 for none, and its day.
-pub fn choose(
-    s: &[u8],
-    v: Version,
-    count: usize,
-    kind: u8,
-    identity: Identity,
-    day: u16,
-    after: bool,
-) -> Lookup
-    requires { (v ≡ version_of s.now) × (certificate_place v count ≤ length s.now) }
-    ensures { result ≡ chosen after kind identity day (certificate_of s.now) count }
+// Of the certificates of a file, the one wanted that is dated nearest the day. The best so far is kept as its index and
+// its day.
+pub fn choose(all: Certificates<'_>, wanted: Wanted) -> Option<Certificate>
+    ensures { result ≡ chosen wanted.after wanted.kind wanted.identity wanted.day (certificate_of all.entry.file.bytes.now) all.entry.count }
 {
-    let mut best: usize = 0;
-    let mut nearest: u16 = 0;
-    let mut i: usize = 0;
-    while i < count {
-        let c = certificate::nth(s, v, i);
-        i += 1;
-        if replaces(c, kind, identity, day, after, 0 < best, nearest) {
-            best = i;
-            nearest = c.day;
+    let mut best: Option<(usize, u16)> = None;
+    for i in 0..all.count {
+        let c = all.nth(i);
+        if wanted.replaces(c, best.map(|(_, day)| day)) {
+            best = Some((i, c.day));
         }
     }
-    if best == 0 {
-        return Lookup::Nothing;
-    }
-    Lookup::Found(certificate::nth(s, v, best - 1))
+    let (i, _) = best?;
+    Some(all.nth(i))
 }
 
-// The certificates of a run among the first `count` of a file, each found through `choose`.
-pub fn choose_all(s: &[u8], v: Version, count: usize, header: RunHeader) -> Chosen
-    requires { (v ≡ version_of s.now) × (certificate_place v count ≤ length s.now) }
-    ensures { result ≡ chosen_for (certificate_of s.now) count header }
+// The certificates of a run among those of a file, each found through `choose`.
+#[tactic(auto, unfolding(choosing::specs::Choosing::chosen_for))]
+pub fn choose_all(all: Certificates<'_>, header: RunHeader) -> Chosen
+    ensures { result ≡ chosen_for (certificate_of all.entry.file.bytes.now) all.entry.count header }
 {
+    let meter = Wanted::before(CertificateKind::METER, header.meter, header.day);
+    let pitot = Wanted::before(CertificateKind::PITOT, header.pitot, header.day);
+    let nozzle = Wanted::before(CertificateKind::NOZZLE, header.nozzle, header.day);
     Chosen {
-        before: choose(
-            s,
-            v,
-            count,
-            CertificateKind::METER,
-            header.meter,
-            header.day,
-            false,
-        ),
-        after: choose(
-            s,
-            v,
-            count,
-            CertificateKind::METER,
-            header.meter,
-            header.day,
-            true,
-        ),
-        pitot: choose(
-            s,
-            v,
-            count,
-            CertificateKind::PITOT,
-            header.pitot,
-            header.day,
-            false,
-        ),
-        nozzle: choose(
-            s,
-            v,
-            count,
-            CertificateKind::NOZZLE,
-            header.nozzle,
-            header.day,
-            false,
-        ),
+        before: choose(all, meter),
+        after: choose(all, meter.later()),
+        pitot: choose(all, pitot),
+        nozzle: choose(all, nozzle),
     }
 }

@@ -1,134 +1,114 @@
 -- Texts written one after another.
-use Prim.Native.Nat.{ℕ, zero, suc, ◌+◌, ◌*◌, ◌/◌, ◌%◌, ◌^◌, ◌≤◌, ◌<◌}
-use mathlib.Core.Path.{◌≡◌, refl, sym, ◌∙◌, ap, subst}
+use Prim.Native.Nat.{ℕ, zero, suc, ◌+◌, ◌*◌, ◌/◌, ◌%◌, ◌^◌, ◌-◌, ◌≤◌, ◌<◌}
+use mathlib.Core.Path.{◌≡◌, refl, sym, ◌∙◌, subst}
 use mathlib.Core.Bool.{Bool, true, false, cond}
 use mathlib.Core.List.{List, [], ◌∷◌, ◌++◌}
 use mathlib.Core.Logic.{◌⊎◌, inl, inr}
 use native.Mathlib.Omega.{arith}
-use lib.ListN.{length, take, drop, get_or, length-append}
-use lib.Seq.{length-take-le, take-suc, take_all, take_at}
-use native.Mathlib.Nat.{add-zero, add_assoc, eq-or-lt_of_le, le_antisymm, le_of_suc-le-suc, lt-suc_self, lt_trans}
+use borrow.Rule.Slice.PartMut.{put_mid}
+use Rattle.std.proofs.lemmas.Grind.{common_steps}
+use lib.ListN.{length, take, drop, length-append}
+use lib.Seq.{take_at}
+use native.Mathlib.Nat.{eq-or-lt_of_le, le_antisymm, le_of_suc-le-suc, lt-suc_self, lt_trans}
 use native.Mathlib.Numerals.{add-one}
 use Rattle.output.specs.Splice.{spliced}
-use Rattle.output.proofs.Splice.{length_spliced, spliced_none, spliced_more}
+use Rattle.output.proofs.Splice.{spliced_none, spliced_more}
 use Rattle.characters.specs.Numbers.{decimal}
 use Rattle.output.specs.Bytes.{joined}
-use Rattle.characters.specs.Writing.{Room, Wrote}
-use Rattle.characters.proofs.Decimals.{decimal_few, decimal_many}
+use Rattle.characters.specs.declared.Writer.{Writer}
+use Rattle.characters.specs.Writing.{Room, Wrote, RoomFor, WroteFront}
+use Rattle.characters.proofs.Decimals.{decimal_many}
 
 -- nothing written yet
-pub wrote_none : (old : List ℕ) (at : ℕ) → Wrote old at [] old at
-wrote_none old at = record { is = spliced_none old at; after = omega arith; kept = refl }
+pub wrote_none : (w : Writer) → Wrote w [] w
+wrote_none w = record { is = spliced_none w.out.now w.at; after = omega arith; kept = refl; same = refl }
 
 -- a text after a text
-pub wrote_more : {old : List ℕ} {at : ℕ} {a b out out' : List ℕ} {next next' : ℕ} → Wrote old at a out next → Wrote out next b out' next' → Room old at (a ++ b) → Wrote old at (a ++ b) out' next'
-wrote_more {old} {at} {a} {b} {out} {out'} {next} {next'} v w room =
+pub wrote_more : {w v u : Writer} {a b : List ℕ} → Wrote w a v → Wrote v b u → Room w (a ++ b) → Wrote w (a ++ b) u
+wrote_more {w} {v} {u} {a} {b} f g room =
     let sum : length (a ++ b) ≡ length a + length b = length-append a b in
-    let fits : at + length a + length b ≤ length old = omega arith in
+    let fits : w.at + length a + length b ≤ length w.out.now = omega (arith, room.fits) in
     record {
-      is = w.is ∙ rw (v.is, v.after) (spliced_more old at a b fits);
-      after = omega (arith, v.after, w.after);
-      kept = w.kept ∙ v.kept;
+      is = g.is ∙ rw (f.is, f.after) (spliced_more w.out.now w.at a b fits);
+      after = omega (arith, f.after, g.after);
+      kept = g.kept ∙ f.kept;
+      same = g.same ∙ f.same;
     }
 
--- one character
-pub wrote_byte : {old : List ℕ} {at b : ℕ} {out : List ℕ} → at < length old → out ≡ spliced old at (b ∷ []) → Wrote old at (b ∷ []) out (at + 1)
-wrote_byte {old} {at} {b} room e =
-    let fits : at + 1 ≤ length old = omega arith in
-    record { is = e; after = refl; kept = ap length e ∙ length_spliced old at (b ∷ []) fits }
+-- the leading digits and the last one
+pub decimal_parts : (n : ℕ) → 10 ≤ n → n < 2 ^ 64 → decimal n ≡ decimal (n / 10) ++ ((48 + n % 10) ∷ [])
+decimal_parts n many fits = decimal_many n many (omega arith)
 
--- a number of one digit, and one of more
-pub wrote_few : {old : List ℕ} {at n : ℕ} {out : List ℕ} → n < 10 → at < length old → out ≡ spliced old at ((48 + n) ∷ []) → Wrote old at (decimal n) out (at + 1)
-wrote_few {n = n} few room e = rw (decimal_few n few) (wrote_byte room e)
-
--- the leading digits leave room for the last one
-pub leading_room : {old : List ℕ} {at : ℕ} (n : ℕ) → 10 ≤ n → n < 2 ^ 64 → Room old at (decimal n) → at + length (decimal (n / 10)) + 1 ≤ length old
-leading_room n many fits room =
-    let step : decimal n ≡ decimal (n / 10) ++ ((48 + n % 10) ∷ []) = decimal_many n many (omega arith) in
-    let size : length (decimal n) ≡ length (decimal (n / 10)) + 1 = ap length step ∙ length-append (decimal (n / 10)) ((48 + n % 10) ∷ []) in
-    omega arith
-
-pub wrote_many : {old : List ℕ} {at n : ℕ} {mid out : List ℕ} {last : ℕ} → 10 ≤ n → n < 2 ^ 64 → Room old at (decimal n) → Wrote old at (decimal (n / 10)) mid last → out ≡ spliced mid last ((48 + n % 10) ∷ []) → Wrote old at (decimal n) out (last + 1)
-wrote_many {old} {at} {n} many fits room w e =
-    let step : decimal n ≡ decimal (n / 10) ++ ((48 + n % 10) ∷ []) = decimal_many n many (omega arith) in
-    let left = leading_room n many fits room in
-    rw step (wrote_more w (wrote_byte (omega (arith, left, w.after, w.kept)) e) (rw step at room))
-
--- i characters of a word are copied
-pub record Copied (old : List ℕ) (at : ℕ) (word out : List ℕ) (i : ℕ) : Type 0 where
-  pub past : i ≤ length word
-  pub room : Room old at word
-  pub is : Wrote old at (take i word) out (at + i)
-
-pub copied_none : (old : List ℕ) (at : ℕ) (word : List ℕ) → Room old at word → Copied old at word old 0
-copied_none old at word room = record { past = omega arith; room = room; is = rw (add-zero at) (wrote_none old at) }
-
-pub copied_more : {old : List ℕ} {at : ℕ} {word out next : List ℕ} {i : ℕ} → Copied old at word out i → i < length word → next ≡ spliced out (at + i) (get_or word i 0 ∷ []) → Copied old at word next (i + 1)
-copied_more {old} {at} {word} {out} {next} {i} d inside e =
-    let size : length (take i word) ≡ i = length-take-le i word d.past in
-    let longer : length (take i word ++ (get_or word i 0 ∷ [])) ≡ i + 1 = length-append (take i word) (get_or word i 0 ∷ []) ∙ ap (λ n. n + 1) size in
-    let step : take (i + 1) word ≡ take i word ++ (get_or word i 0 ∷ []) = rw (add-one i) (take-suc word i 0 inside) in
-    record {
-      past = omega arith;
-      room = d.room;
-      is = rw (step, ← add_assoc at i 1) (wrote_more d.is (wrote_byte (omega (arith, d.room, d.is.kept)) e) (record { fits = omega (arith, d.room) }));
-    }
-
-pub copied_all : {old : List ℕ} {at : ℕ} {word out : List ℕ} {i : ℕ} → Copied old at word out i → length word ≤ i → Wrote old at word out (at + i)
-copied_all {word = word} {i = i} d end = rw (take_all i word end) at d.is
-
--- a text at the front of a buffer: it ends at its length, and is the buffer's front
-pub written_end : {old text out : List ℕ} {next : ℕ} → Wrote old 0 text out next → next ≡ length text
-written_end w = omega (arith, w.after)
-
-pub written_front : {old text out : List ℕ} {next : ℕ} → Wrote old 0 text out next → take next out ≡ text
+-- what is laid over the bytes of its length is spliced in
+pub laid_over : (old : List ℕ) (at : ℕ) {word mid : List ℕ} → at + length word ≤ length old → mid ≡ word → put_mid at (at + length word - at) old mid ≡ spliced old at word
 unfolding spliced
-written_front {old} {text} {next = next} w = rw w.is (take_at text (drop (0 + length text) old) next (sym (written_end w)))
+laid_over old at {word} fits e =
+    let size : at + length word - at ≡ length word = omega arith in
+    rw e (grind (arith, common_steps, size))
+
+-- a writer at the front of a buffer has its room, and what it wrote stands at the front of that buffer
+pub room_at_front : {w : Writer} {text : List ℕ} → RoomFor w.out.now text → w.at ≡ 0 → Room w text
+room_at_front room e = record { fits = omega (arith, e, room.fits) }
+
+pub wrote_front : {w v : Writer} {text : List ℕ} → Wrote w text v → w.at ≡ 0 → WroteFront w.out.now text v.out.now v.at
+wrote_front f e = record { is = rw (← e) f.is; long = omega (arith, e, f.after); kept = f.kept }
+
+-- and so it stands at the front of a buffer that is left as the writer's is
+pub left_in_front : {w v : Writer} {text out : List ℕ} → Wrote w text v → w.at ≡ 0 → out ≡ v.out.now → WroteFront w.out.now text out v.at
+left_in_front f e same = rw same (wrote_front f e)
+
+-- a text at the front of a buffer is the buffer's front, and lies within it
+pub taken_front : {old text out : List ℕ} {n : ℕ} → WroteFront old text out n → take n out ≡ text
+unfolding spliced
+taken_front {old} {text} {n = n} w = rw w.is (take_at text (drop (0 + length text) old) n (sym w.long))
+
+pub within_front : {old text out : List ℕ} {n : ℕ} → WroteFront old text out n → length text ≤ length old → n ≤ length out
+within_front w room = omega (arith, w.long, w.kept)
 
 -- of a text after a text: room for the first, and behind it room for the second
-pub room_front : {old : List ℕ} {at : ℕ} (a b : List ℕ) → Room old at (a ++ b) → Room old at a
-room_front a b h = record { fits = omega (arith, length-append a b) }
+pub room_front : {w : Writer} (a b : List ℕ) → Room w (a ++ b) → Room w a
+room_front a b h = record { fits = omega (arith, length-append a b, h.fits) }
 
-pub room_behind : {old : List ℕ} {at : ℕ} {a out : List ℕ} {next : ℕ} (b : List ℕ) → Wrote old at a out next → Room old at (a ++ b) → Room out next b
-room_behind {a = a} b w h = record { fits = omega (arith, length-append a b, w.after, w.kept) }
+pub room_behind : {w v : Writer} {a : List ℕ} (b : List ℕ) → Wrote w a v → Room w (a ++ b) → Room v b
+room_behind {a = a} b w h = record { fits = omega (arith, length-append a b, h.fits, w.after, w.kept) }
 
 -- four texts, one after another: room for each behind those before it, and all of them written
-module _ {old : List ℕ} {at : ℕ} (a b c d : List ℕ) (room : Room old at (a ++ b ++ c ++ d)) where
-  three : Room old at (a ++ b ++ c)
+module _ {w : Writer} (a b c d : List ℕ) (room : Room w (a ++ b ++ c ++ d)) where
+  three : Room w (a ++ b ++ c)
   three = room_front (a ++ b ++ c) d room
 
-  two : Room old at (a ++ b)
+  two : Room w (a ++ b)
   two = room_front (a ++ b) c three
 
-  pub room_first : Room old at a
+  pub room_first : Room w a
   room_first = room_front a b two
 
-  module _ {o : List ℕ} {p : ℕ} (u : Wrote old at a o p) where
-    pub room_second : Room o p b
-    room_second = room_behind b u two
+  module _ {w₁ : Writer} (f : Wrote w a w₁) where
+    pub room_second : Room w₁ b
+    room_second = room_behind b f two
 
-    module _ {o₂ : List ℕ} {p₂ : ℕ} (v : Wrote o p b o₂ p₂) where
-      pub room_third : Room o₂ p₂ c
-      room_third = room_behind c (wrote_more u v two) three
+    module _ {w₂ : Writer} (g : Wrote w₁ b w₂) where
+      pub room_third : Room w₂ c
+      room_third = room_behind c (wrote_more f g two) three
 
-      module _ {o₃ : List ℕ} {p₃ : ℕ} (w : Wrote o₂ p₂ c o₃ p₃) where
-        pub room_fourth : Room o₃ p₃ d
-        room_fourth = room_behind d (wrote_more (wrote_more u v two) w three) room
+      module _ {w₃ : Writer} (h : Wrote w₂ c w₃) where
+        pub room_fourth : Room w₃ d
+        room_fourth = room_behind d (wrote_more (wrote_more f g two) h three) room
 
-        pub wrote_four : {o₄ : List ℕ} {p₄ : ℕ} → Wrote o₃ p₃ d o₄ p₄ → Wrote old at (a ++ b ++ c ++ d) o₄ p₄
-        wrote_four x = wrote_more (wrote_more (wrote_more u v two) w three) x room
+        pub wrote_four : {w₄ : Writer} → Wrote w₃ d w₄ → Wrote w (a ++ b ++ c ++ d) w₄
+        wrote_four x = wrote_more (wrote_more (wrote_more f g two) h three) x room
 
 -- and a fifth
-module _ {old : List ℕ} {at : ℕ} (a b c d e : List ℕ) (room : Room old at (a ++ b ++ c ++ d ++ e)) where
-  four : Room old at (a ++ b ++ c ++ d)
+module _ {w : Writer} (a b c d e : List ℕ) (room : Room w (a ++ b ++ c ++ d ++ e)) where
+  four : Room w (a ++ b ++ c ++ d)
   four = room_front (a ++ b ++ c ++ d) e room
 
-  module _ {o o₂ o₃ o₄ : List ℕ} {p p₂ p₃ p₄ : ℕ} (u : Wrote old at a o p) (v : Wrote o p b o₂ p₂) (w : Wrote o₂ p₂ c o₃ p₃) (x : Wrote o₃ p₃ d o₄ p₄) where
-    pub room_fifth : Room o₄ p₄ e
-    room_fifth = room_behind e (wrote_four a b c d four u v w x) room
+  module _ {w₁ w₂ w₃ w₄ : Writer} (f : Wrote w a w₁) (g : Wrote w₁ b w₂) (h : Wrote w₂ c w₃) (x : Wrote w₃ d w₄) where
+    pub room_fifth : Room w₄ e
+    room_fifth = room_behind e (wrote_four a b c d four f g h x) room
 
-    pub wrote_five : {o₅ : List ℕ} {p₅ : ℕ} → Wrote o₄ p₄ e o₅ p₅ → Wrote old at (a ++ b ++ c ++ d ++ e) o₅ p₅
-    wrote_five y = wrote_more (wrote_four a b c d four u v w x) y room
+    pub wrote_five : {w₅ : Writer} → Wrote w₄ e w₅ → Wrote w (a ++ b ++ c ++ d ++ e) w₅
+    wrote_five y = wrote_more (wrote_four a b c d four f g h x) y room
 
 -- of two texts, whichever it is
 pub either_short : (test : Bool) (a b : List ℕ) (n : ℕ) → length a ≤ n → length b ≤ n → length (cond test a b) ≤ n
@@ -158,19 +138,19 @@ joined_short text (suc n) most each =
     let rest = joined_short text n most (λ i inside. each i (lt_trans inside (lt-suc_self n))) in
     omega (arith, joined_length text n, rest, each n (lt-suc_self n))
 
-pub joined_none : (text : ℕ → List ℕ) (old : List ℕ) (at : ℕ) → Wrote old at (joined text 0) old at
+pub joined_none : (text : ℕ → List ℕ) (w : Writer) → Wrote w (joined text 0) w
 unfolding joined
-joined_none text old at = wrote_none old at
+joined_none text w = wrote_none w
 
 -- the last is written
-pub joined_all : (text : ℕ → List ℕ) {n i : ℕ} {old : List ℕ} {at : ℕ} {out : List ℕ} {next : ℕ} → Wrote old at (joined text i) out next → i ≤ n → n ≤ i → Wrote old at (joined text n) out next
-joined_all text {n} {i} {old} {at} {out} {next} w past end = subst (λ m. Wrote old at (joined text m) out next) (le_antisymm past end) w
+pub joined_all : (text : ℕ → List ℕ) {n i : ℕ} {w v : Writer} → Wrote w (joined text i) v → i ≤ n → n ≤ i → Wrote w (joined text n) v
+joined_all text {n} {i} {w} {v} f past end = subst (λ m. Wrote w (joined text m) v) (le_antisymm past end) f
 
 -- i of n are written, and there is room for all: room for the next one, and the next one written
-module _ (text : ℕ → List ℕ) {n i : ℕ} {old : List ℕ} {at : ℕ} {out : List ℕ} {next : ℕ} (w : Wrote old at (joined text i) out next) (room : Room old at (joined text n)) (inside : i < n) where
-  pub joined_room : Room out next (text i)
-  joined_room = record { fits = omega (arith, room.fits, joined_length text i, joined_grows text (suc i) n inside, w.after, w.kept) }
+module _ (text : ℕ → List ℕ) {n i : ℕ} {w v : Writer} (f : Wrote w (joined text i) v) (room : Room w (joined text n)) (inside : i < n) where
+  pub joined_room : Room v (text i)
+  joined_room = record { fits = omega (arith, room.fits, joined_length text i, joined_grows text (suc i) n inside, f.after, f.kept) }
 
-  pub joined_more : {out' : List ℕ} {next' : ℕ} → Wrote out next (text i) out' next' → Wrote old at (joined text (i + 1)) out' next'
+  pub joined_more : {u : Writer} → Wrote v (text i) u → Wrote w (joined text (i + 1)) u
   unfolding joined
-  joined_more w' = rw (add-one i) (wrote_more w w' (record { fits = omega (arith, room.fits, joined_grows text (suc i) n inside) }))
+  joined_more g = rw (add-one i) (wrote_more f g (record { fits = omega (arith, room.fits, joined_grows text (suc i) n inside) }))

@@ -1,4 +1,5 @@
 -- The laws of the choice: what it answers, when it answers nothing, and that only the certificates of its kind, maker, serial and letter count.
+use Rattle.std.specs.Prelude.{Option, Some, None}
 use Prim.Native.Nat.{ℕ, zero, suc, ◌<◌}
 use mathlib.Core.Path.{◌≡◌, refl, sym, ◌∙◌, ap}
 use mathlib.Core.Bool.{Bool, true, false, false≢true, cond}
@@ -16,8 +17,6 @@ use Rattle.records.specs.Records.{same_identity}
 use Rattle.readings.specs.Ranges.{meter, pitot, nozzle}
 use Rattle.readings.proofs.Ranges.{both_left, both_right}
 use Rattle.records.proofs.Identities.{same_equal, same_refl}
-use Rattle.choosing.specs.declared.Lookup.{Lookup}
-use Rattle.choosing.specs.declared.Lookup.TheVariants.{Found, Nothing}
 use Rattle.choosing.specs.Choosing.{so_dated, nearer, eligible, keep, chosen, chosen_for, Dated, NoNearer, Eligible, NoneSoDated, Nearest, Unique, Included, SameMembers, SameForRun}
 
 -- The tests of the definition and the words of docs/RULES.md say the same
@@ -67,17 +66,17 @@ none_nearer_both true a b h k = le_antisymm h k
 below_suc : (P : ℕ → Type 0) (n : ℕ) → ((i : ℕ) → i < n → P i) → P n → (i : ℕ) → i < suc n → P i
 below_suc P n h p i l = below_more P n h p i (rw add-one l)
 
-found_something : {c : Certificate} → Found c ≡ Nothing → ⊥
+found_something : {c : Certificate} → Some c ≡ None → ⊥
 found_something e = let z : ◌≡◌ {A = ℕ} 0 1 = cc in omega arith
 
 -- What the choice answers
 module _ (after : Bool) (kind : ℕ) (identity : Identity) (day : ℕ) (f : ℕ → Certificate) where
   -- nothing where there is none, or the nearest
-  abbrev Answer : ℕ → Lookup → Type 0
-  Answer n l = ((l ≡ Nothing) × NoneSoDated after kind identity day f n) ⊎ ((c : Certificate) × ((l ≡ Found c) × Nearest after kind identity day f n c))
+  abbrev Answer : ℕ → Option Certificate → Type 0
+  Answer n l = ((l ≡ None) × NoneSoDated after kind identity day f n) ⊎ ((c : Certificate) × ((l ≡ Some c) × Nearest after kind identity day f n c))
 
   -- the first n, and one more that is not so dated
-  passed : (n : ℕ) {l : Lookup} → eligible after kind identity day (f n) ≡ false → Answer n l → Answer (suc n) l
+  passed : (n : ℕ) {l : Option Certificate} → eligible after kind identity day (f n) ≡ false → Answer n l → Answer (suc n) l
   passed n e (inl (is, none)) =
       inl (is, below_suc (λ i. Eligible after kind identity day (f i) → ⊥) n none (λ h. false≢true (sym e ∙ eligible_is _ _ _ _ _ h)))
   passed n e (inr (c, (is, best))) =
@@ -117,7 +116,7 @@ module _ (after : Bool) (kind : ℕ) (identity : Identity) (day : ℕ) (f : ℕ 
       }
 
   -- one more that is so dated, against the best of the first n
-  against : (n : ℕ) (b : Certificate) (t : Bool) → nearer after b.day (f n).day ≡ t → Eligible after kind identity day (f n) → Nearest after kind identity day f n b → Answer (suc n) (cond t (Found (f n)) (Found b))
+  against : (n : ℕ) (b : Certificate) (t : Bool) → nearer after b.day (f n).day ≡ t → Eligible after kind identity day (f n) → Nearest after kind identity day f n b → Answer (suc n) (cond t (Some (f n)) (Some b))
   against n b true e h best =
       inr (f n, (refl, newest n h (λ i l o. nearer_true after _ _ _ e (best.nearest i l o))))
   against n b false e h best =
@@ -140,7 +139,7 @@ module _ (after : Bool) (kind : ℕ) (identity : Identity) (day : ℕ) (f : ℕ 
         ),
       )
 
-  kept : (n : ℕ) {l : Lookup} → Eligible after kind identity day (f n) → Answer n l → Answer (suc n) (keep after l (f n))
+  kept : (n : ℕ) {l : Option Certificate} → Eligible after kind identity day (f n) → Answer n l → Answer (suc n) (keep after l (f n))
   unfolding keep
   kept n h (inl (is, none)) = rw is (inr (f n, (refl, newest n h (λ i l o. absurd (none i l o)))))
   kept n h (inr (c, (is, best))) = rw is (against n c _ refl h best)
@@ -155,20 +154,20 @@ module _ (after : Bool) (kind : ℕ) (identity : Identity) (day : ℕ) (f : ℕ 
       step false e a = passed n e a
 
   -- A certificate is missing exactly if none of the first n is of that kind, maker, serial and letter and so dated
-  pub chosen_nothing : (n : ℕ) → (chosen after kind identity day f n ≡ Nothing) ↔ NoneSoDated after kind identity day f n
+  pub chosen_nothing : (n : ℕ) → (chosen after kind identity day f n ≡ None) ↔ NoneSoDated after kind identity day f n
   chosen_nothing n = (none (answer n), missing (answer n))
     where
-      none : Answer n (chosen after kind identity day f n) → chosen after kind identity day f n ≡ Nothing → NoneSoDated after kind identity day f n
+      none : Answer n (chosen after kind identity day f n) → chosen after kind identity day f n ≡ None → NoneSoDated after kind identity day f n
       none (inl (is, h)) e = h
       none (inr (c, (is, best))) e = absurd (found_something (sym is ∙ e))
 
-      missing : Answer n (chosen after kind identity day f n) → NoneSoDated after kind identity day f n → chosen after kind identity day f n ≡ Nothing
+      missing : Answer n (chosen after kind identity day f n) → NoneSoDated after kind identity day f n → chosen after kind identity day f n ≡ None
       missing (inl (is, h)) none = is
       missing (inr (c, (is, best))) none =
           absurd (none best.index best.inside (rw best.there best.eligible))
 
   -- What is found is one of the first n, of that kind, maker, serial and letter, so dated, and no other so dated is nearer
-  pub chosen_found : (n : ℕ) (c : Certificate) → chosen after kind identity day f n ≡ Found c → Nearest after kind identity day f n c
+  pub chosen_found : (n : ℕ) (c : Certificate) → chosen after kind identity day f n ≡ Some c → Nearest after kind identity day f n c
   chosen_found n c e = is_nearest (answer n)
     where
       is_nearest : Answer n (chosen after kind identity day f n) → Nearest after kind identity day f n c
@@ -187,7 +186,7 @@ module _ (after : Bool) (kind : ℕ) (identity : Identity) (day : ℕ) (f : ℕ 
       (j, (inside, same ∙ there))
 
   -- so a choice that finds nothing in the second finds nothing in the first
-  nothing_either : Included kind identity f n g m → chosen after kind identity day g m ≡ Nothing → chosen after kind identity day f n ≡ Nothing
+  nothing_either : Included kind identity f n g m → chosen after kind identity day g m ≡ None → chosen after kind identity day f n ≡ None
   nothing_either within e =
       (chosen_nothing after kind identity day f n).1
       (λ i l h.
@@ -217,12 +216,12 @@ module _ (after : Bool) (kind : ℕ) (identity : Identity) (day : ℕ) (f : ℕ 
   pub chosen_same_members : Unique f n → SameMembers kind identity f n g m → chosen after kind identity day f n ≡ chosen after kind identity day g m
   chosen_same_members unique same = go _ _ refl refl
     where
-      go : (a b : Lookup) → chosen after kind identity day f n ≡ a → chosen after kind identity day g m ≡ b → a ≡ b
-      go Nothing Nothing d e = refl
-      go Nothing (Found c) d e = sym (nothing_either after kind identity day g m f n same.back d) ∙ e
-      go (Found c) Nothing d e = sym d ∙ nothing_either after kind identity day f n g m same.into e
-      go (Found b) (Found c) d e =
-          ap Found (one_found unique same b c (chosen_found after kind identity day f n b d) (chosen_found after kind identity day g m c e))
+      go : (a b : Option Certificate) → chosen after kind identity day f n ≡ a → chosen after kind identity day g m ≡ b → a ≡ b
+      go None None d e = refl
+      go None (Some c) d e = sym (nothing_either after kind identity day g m f n same.back d) ∙ e
+      go (Some c) None d e = sym d ∙ nothing_either after kind identity day f n g m same.into e
+      go (Some b) (Some c) d e =
+          ap Some (one_found unique same b c (chosen_found after kind identity day f n b d) (chosen_found after kind identity day g m c e))
 
 -- Demand 3 for certificates: a run's certificates hang on those of its own meter, pitot tube and nozzle alone
 pub chosen_for_same_members : (h : RunHeader) (f : ℕ → Certificate) (n : ℕ) (g : ℕ → Certificate) (m : ℕ) → Unique f n → SameForRun h f n g m → chosen_for f n h ≡ chosen_for g m h

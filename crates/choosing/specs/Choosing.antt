@@ -1,12 +1,10 @@
 -- docs/RULES.md, Choosing certificates: kind, maker, serial and letter all count, and one before or after the run's day.
-use Rattle.std.specs.Prelude.{ℕ, zero, suc, ◌≤◌, ◌<◌, ◌≡◌, Bool, true, false, cond, not, ◌&&◌, ◌||◌, leb, ltb, eqb}
+use Rattle.std.specs.Prelude.{ℕ, zero, suc, ◌≤◌, ◌<◌, ◌≡◌, Bool, true, false, cond, ◌&&◌, Option, Some, None, leb, ltb, eqb}
 use Rattle.readings.specs.Ranges.{meter, pitot, nozzle}
 use Rattle.records.specs.declared.Identity.{Identity}
 use Rattle.records.specs.declared.Certificate.{Certificate}
 use Rattle.records.specs.declared.RunHeader.{RunHeader}
 use Rattle.records.specs.Records.{same_identity}
-use Rattle.choosing.specs.declared.Lookup.{Lookup}
-use Rattle.choosing.specs.declared.Lookup.TheVariants.{Found, Nothing}
 use Rattle.choosing.specs.declared.Chosen.{Chosen}
 
 -- before: on or before the day; after: later than the day
@@ -25,20 +23,24 @@ eligible after kind identity day c =
     eqb c.kind kind && (same_identity c.identity identity && so_dated after day c.day)
 
 -- the nearer of the best so far and one certificate more
-unfoldable pub keep : Bool → Lookup → Certificate → Lookup
-keep after Nothing c = Found c
-keep after (Found b) c = cond (nearer after b.day c.day) (Found c) (Found b)
+unfoldable pub keep : Bool → Option Certificate → Certificate → Option Certificate
+keep after None c = Some c
+keep after (Some b) c = cond (nearer after b.day c.day) (Some c) (Some b)
 
--- one certificate more takes the place of the best so far: so dated, and nearer where a best was found
-abbrev pub replaces : Bool → ℕ → Identity → ℕ → Bool → ℕ → Certificate → Bool
-replaces after kind identity day found nearest c =
-    eligible after kind identity day c && (not found || nearer after nearest c.day)
+-- the best so far gives way to a day: there is no best, or its day is less near
+abbrev pub gives_way : Bool → Option ℕ → ℕ → Bool
+gives_way after None dated = true
+gives_way after (Some nearest) dated = nearer after nearest dated
+
+-- one certificate more takes the place of the best so far: so dated, and the best gives way to its day
+abbrev pub replaces : Bool → ℕ → Identity → ℕ → Option ℕ → Certificate → Bool
+replaces after kind identity day nearest c = eligible after kind identity day c && gives_way after nearest c.day
 
 -- Of the first n certificates: before, the latest dated on or before the day; after, the earliest dated later
-unfoldable pub chosen : Bool → ℕ → Identity → ℕ → (ℕ → Certificate) → ℕ → Lookup
-chosen after kind identity day f zero = Nothing
+unfoldable pub chosen : Bool → ℕ → Identity → ℕ → (ℕ → Certificate) → ℕ → Option Certificate
+chosen after kind identity day f zero = None
 chosen after kind identity day f (suc n) =
-    let best : Lookup = chosen after kind identity day f n in
+    let best : Option Certificate = chosen after kind identity day f n in
     cond (eligible after kind identity day (f n)) (keep after best (f n)) best
 
 -- A run's certificates: of its meter before and after, of its pitot tube and of its nozzle before

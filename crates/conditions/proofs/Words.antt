@@ -1,4 +1,5 @@
 -- Rules 15, 16 and 17 in the words of docs/RULES.md.
+use Rattle.std.specs.Prelude.{Some}
 use Prim.Native.Nat.{ℕ, ◌+◌, ◌*◌, ◌<◌}
 use mathlib.Core.Path.{◌≡◌}
 use mathlib.Core.Bool.{true}
@@ -11,14 +12,13 @@ use Rattle.grounds.specs.declared.comparison.Way.{Way}
 use Rattle.grounds.specs.Comparing.{stands_to, holds, apart}
 use Rattle.grounds.specs.Grounds.{broken}
 use Rattle.grounds.proofs.Exactly.{exactly}
-use Rattle.values.specs.declared.Ratio.TheVariants.{Exact}
 use Rattle.records.specs.declared.Weighing.{Weighing}
 use Rattle.conditions.specs.declared.Part.TheVariants.{OneWeighing}
 use Rattle.conditions.specs.Conditions.{ratio_against, difference, net, steady_limit, unsteady}
 use Rattle.conditions.proofs.Net.{limit_of_net}
 
 -- a line that is n / d rounded stands to its limit as n stands to so many times d
-pub ratio_exactly : (way : Way) (n d limit : ℕ) → 0 < d → broken (ratio_against (Exact (division n d)) way limit) ≡ stands_to way n (limit * d)
+pub ratio_exactly : (way : Way) (n d limit : ℕ) → 0 < d → broken (ratio_against (Some (division n d)) way limit) ≡ stands_to way n (limit * d)
 unfolding division broken ratio_against
 ratio_exactly way n d limit some = exactly way n d _ _ limit (div-add-mod' n d) (mod-lt n some)
 

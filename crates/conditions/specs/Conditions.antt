@@ -1,14 +1,10 @@
 -- What each rule of docs/RULES.md goes by, but for 7 to 9, which are about the site.
-use Rattle.std.specs.Prelude.{ℕ, ◌-◌, ◌*◌, min, max, ℤ, pos, negsuc}
+use Rattle.std.specs.Prelude.{ℕ, ◌-◌, ◌*◌, min, max, ℤ, pos, negsuc, Option, Some, None}
+use Rattle.arith.specs.declared.Division.{Division}
+use Rattle.records.specs.declared.Certificate.{Certificate}
 use Rattle.std.proofs.Math.IntN.{sub_ℕ}
 use Rattle.records.specs.declared.Weighing.{Weighing}
-use Rattle.values.specs.declared.Ratio.{Ratio}
-use Rattle.values.specs.declared.Ratio.TheVariants.{Exact, Unworked}
-use Rattle.values.specs.declared.Value.{Value}
-use Rattle.values.specs.declared.Value.TheVariants.{Known, Missing}
 use Rattle.metering.specs.Metering.{allowance}
-use Rattle.choosing.specs.declared.Lookup.{Lookup}
-use Rattle.choosing.specs.declared.Lookup.TheVariants.{Found, Nothing}
 use Rattle.grounds.specs.declared.comparison.Way.{Way}
 use Rattle.grounds.specs.declared.comparison.Way.TheVariants.{Below, Above}
 use Rattle.grounds.specs.Comparing.{compare, compare_exactly, apart}
@@ -19,15 +15,15 @@ use Rattle.conditions.specs.declared.Part.{Part}
 use Rattle.conditions.specs.declared.Part.TheVariants.{Whole, OnePoint, OneSegment, OneWeighing}
 
 -- 1, 2, 3, 4: no certificate so dated
-unfoldable pub missing : Lookup → Ground
-missing Nothing = NoCertificate
-missing (Found c) = Silent
+unfoldable pub missing : Option Certificate → Ground
+missing None = NoCertificate
+missing (Some c) = Silent
 
 -- 5: the factor moved, both certificates present
-unfoldable pub moved : Lookup → Lookup → Ground
-moved Nothing after = Silent
-moved (Found b) Nothing = Silent
-moved (Found b) (Found a) = Compared (factor_moved b.first a.first)
+unfoldable pub moved : Option Certificate → Option Certificate → Ground
+moved None after = Silent
+moved (Some b) None = Silent
+moved (Some b) (Some a) = Compared (factor_moved b.first a.first)
 
 -- the highest of three diameters less the lowest
 abbrev pub spread : ℕ → ℕ → ℕ → ℕ
@@ -38,9 +34,9 @@ abbrev pub greatest_spread : ℕ
 greatest_spread = 4
 
 -- 6: the nozzle's highest and lowest diameter differ by over that
-unfoldable pub uneven : Lookup → Ground
-uneven Nothing = Silent
-uneven (Found n) = Compared (compare (spread n.first n.second n.third) Above greatest_spread)
+unfoldable pub uneven : Option Certificate → Ground
+uneven None = Silent
+uneven (Some n) = Compared (compare (spread n.first n.second n.third) Above greatest_spread)
 
 -- the least time at a point, seconds
 abbrev pub least_time_at_point : ℕ
@@ -61,14 +57,14 @@ leaking t v (OnePoint p) = Silent
 leaking t v (OneWeighing w) = Silent
 
 -- 12, 14: a line against its limit, where it is present
-unfoldable pub line_against : Value → Way → ℕ → Ground
-line_against Missing way limit = Silent
-line_against (Known n) way limit = Compared (compare n way limit)
+unfoldable pub line_against : Option ℕ → Way → ℕ → Ground
+line_against None way limit = Silent
+line_against (Some n) way limit = Compared (compare n way limit)
 
 -- 15, 16: a line before it is rounded against its limit, where it is present
-unfoldable pub ratio_against : Ratio → Way → ℕ → Ground
-ratio_against Unworked way limit = Silent
-ratio_against (Exact n) way limit = Exactly (compare_exactly n.quotient n.remainder way limit)
+unfoldable pub ratio_against : Option Division → Way → ℕ → Ground
+ratio_against None way limit = Silent
+ratio_against (Some n) way limit = Exactly (compare_exactly n.quotient n.remainder way limit)
 
 -- the least percent isokinetic, 0.01 percent
 abbrev pub least_isokinetic : ℕ

@@ -3,32 +3,33 @@
 ghost use Rattle.std.specs.Prelude.{◌≡◌};
 ghost use Rattle.conditions.specs.Conditions.{missing, moved, spread, uneven};
 
-use arith::{larger, smaller};
-use choosing::Lookup;
 use grounds::Ground;
 use grounds::comparison::{Comparison, Way};
+use records::Certificate;
 
 // How far a nozzle's highest and lowest diameter may differ, 0.001 in.
 const GREATEST_SPREAD: u64 = 4;
 
 // Rules 1 to 4: no certificate so dated.
-pub fn missing(found: Lookup) -> Ground
+#[tactic(auto, unfolding(crate::specs::Conditions::missing))]
+pub fn missing(found: Option<Certificate>) -> Ground
     ensures { result ≡ missing found }
 {
-    let Lookup::Found(_c) = found else {
+    let Some(_) = found else {
         return Ground::NoCertificate;
     };
     Ground::Silent
 }
 
 // Rule 5: the factor moved, where both certificates are there.
-pub fn moved(before: Lookup, after: Lookup) -> Ground
+#[tactic(auto, unfolding(crate::specs::Conditions::moved))]
+pub fn moved(before: Option<Certificate>, after: Option<Certificate>) -> Ground
     ensures { result ≡ moved before after }
 {
-    let Lookup::Found(b) = before else {
+    let Some(b) = before else {
         return Ground::Silent;
     };
-    let Lookup::Found(a) = after else {
+    let Some(a) = after else {
         return Ground::Silent;
     };
     Ground::Compared(factors::factor_moved(b.first, a.first))
@@ -38,14 +39,15 @@ pub fn moved(before: Lookup, after: Lookup) -> Ground
 fn spread(a: u64, b: u64, c: u64) -> u64
     ensures { result ≡ spread a b c }
 {
-    larger(larger(a, b), c) - smaller(smaller(a, b), c)
+    a.max(b).max(c) - a.min(b).min(c)
 }
 
 // Rule 6: the nozzle's highest and lowest diameter differ by too much.
-pub fn uneven(nozzle: Lookup) -> Ground
+#[tactic(auto, unfolding(crate::specs::Conditions::uneven))]
+pub fn uneven(nozzle: Option<Certificate>) -> Ground
     ensures { result ≡ uneven nozzle }
 {
-    let Lookup::Found(n) = nozzle else {
+    let Some(n) = nozzle else {
         return Ground::Silent;
     };
     Ground::Compared(Comparison {

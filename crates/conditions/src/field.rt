@@ -13,6 +13,7 @@ use metering::allowance;
 const LEAST_TIME_AT_POINT: u64 = 120;
 
 // Rule 10: a point under 120 seconds.
+#[tactic(auto, unfolding(crate::specs::Conditions::short))]
 pub fn short(part: Part) -> Ground
     ensures { result ≡ short part }
 {
@@ -27,6 +28,7 @@ pub fn short(part: Part) -> Ground
 }
 
 // Rule 11: a segment's leak above the allowance, of a run of that time T and metered volume V.
+#[tactic(auto, unfolding(crate::specs::Conditions::leaking))]
 pub fn leaking(time: u64, volume: u64, part: Part) -> Ground
     requires { (time ≤ greatest_total_seconds) × (volume ≤ greatest_above_first) }
     ensures { result ≡ leaking time volume part }

@@ -3,9 +3,9 @@
 ghost use Rattle.std.specs.Prelude.{◌≡◌};
 ghost use Rattle.conditions.specs.Conditions.{line_against, ratio_against};
 
+use arith::Division;
 use grounds::Ground;
 use grounds::comparison::{Comparison, ExactComparison, Way};
-use values::{Ratio, Value};
 
 // The least and the greatest percent isokinetic, 0.01 percent.
 pub struct Isokinetic;
@@ -17,30 +17,32 @@ impl Isokinetic {
 }
 
 // A line against its limit, where the line is present.
-pub fn line_against(line: Value, way: Way, limit: u64) -> Ground
+#[tactic(auto, unfolding(crate::specs::Conditions::line_against))]
+pub fn line_against(line: Option<u64>, way: Way, limit: u64) -> Ground
     ensures { result ≡ line_against line way limit }
 {
-    let Value::Known(n) = line else {
+    let Some(n) = line else {
         return Ground::Silent;
     };
     Ground::Compared(Comparison {
         left: n,
-        way: way,
+        way,
         right: limit,
     })
 }
 
 // A line before it is rounded against its limit, where the line is present.
-pub fn ratio_against(line: Ratio, way: Way, limit: u64) -> Ground
+#[tactic(auto, unfolding(crate::specs::Conditions::ratio_against))]
+pub fn ratio_against(line: Option<Division>, way: Way, limit: u64) -> Ground
     ensures { result ≡ ratio_against line way limit }
 {
-    let Ratio::Exact(division) = line else {
+    let Some(division) = line else {
         return Ground::Silent;
     };
     Ground::Exactly(ExactComparison {
         quotient: division.quotient,
         remainder: division.remainder,
-        way: way,
-        limit: limit,
+        way,
+        limit,
     })
 }

@@ -5,9 +5,8 @@ ghost use Rattle.std.proofs.Math.IntN.{sub_ℕ};
 ghost use Rattle.conditions.specs.Conditions.{steady_limit, unsteady, lacking, negative};
 
 use crate::Part;
-use arith::{larger, less};
 use grounds::Ground;
-use grounds::comparison::{Comparison, Way, apart};
+use grounds::comparison::{Comparison, Way};
 
 // How far two final weights may differ whatever the net is, 0.1 mg.
 const GREATEST_DIFFERENCE: u64 = 5;
@@ -16,14 +15,16 @@ const GREATEST_DIFFERENCE: u64 = 5;
 const HUNDREDFOLD: u64 = 100;
 
 // The larger of 500 and the net. A net that is negative counts as 0, which is less than 500.
+#[tactic(auto, using(crate::proofs::Net::limit_of_net))]
 fn steady_limit(second: u64, tare: u64) -> u64
     ensures { result ≡ steady_limit (sub_ℕ second tare) }
 {
-    larger(HUNDREDFOLD * GREATEST_DIFFERENCE, less(second, tare))
+    (HUNDREDFOLD * GREATEST_DIFFERENCE).max(second.saturating_sub(tare))
 }
 
 // Rule 17: a weighing whose two final weights differ by more than 0.5 mg and by more than 1 percent of the net. Both are
 // one comparison.
+#[tactic(auto, unfolding(crate::specs::Conditions::unsteady, grounds::specs::Comparing::apart))]
 pub fn unsteady(part: Part) -> Ground
     ensures { result ≡ unsteady part }
 {
@@ -31,7 +32,7 @@ pub fn unsteady(part: Part) -> Ground
         return Ground::Silent;
     };
     Ground::Compared(Comparison {
-        left: HUNDREDFOLD * apart(weighing.first as u64, weighing.second as u64),
+        left: HUNDREDFOLD * (weighing.first as u64).abs_diff(weighing.second as u64),
         way: Way::Above,
         right: steady_limit(weighing.second as u64, weighing.tare as u64),
     })

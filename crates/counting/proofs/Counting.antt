@@ -4,27 +4,28 @@ use mathlib.Core.Path.{◌≡◌, ◌∙◌, ap}
 use mathlib.Core.List.{List}
 use borrow.Author.Tests.{le-leb, lt-leb}
 use lib.ListN.{get_or, drop}
-use Rattle.fields.specs.declared.trouble.Trouble.TheVariants.{At}
+use Rattle.fields.specs.Trouble.{At}
 use Rattle.fields.specs.Numbers.{u16_at}
 use Rattle.opening.specs.Opening.{run_count_of}
 use Rattle.parts.specs.Values.{run_at}
 use Rattle.job.specs.declared.Job.{Job}
-use Rattle.job.specs.Reading.{read_job, ClearJob}
-use Rattle.job.proofs.ReadJobs.{count_of_runs, start_of, read_refused}
-use Rattle.output.specs.declared.Answer.TheVariants.{Done, Refused}
+use Rattle.job.specs.Troubles.{job_trouble}
+use Rattle.job.specs.Reading.{ClearJob}
+use Rattle.job.proofs.ReadJobs.{count_of_runs, start_of}
+use Rattle.output.specs.Answers.{Done, Refused}
 use Rattle.counting.specs.Counting.{count_answer, number_answer}
 
-pub count_refused : (s : List ℕ) {j : Job} {n p : ℕ} → j ≡ read_job s → j.trouble ≡ At n p → Refused n p ≡ count_answer s
+pub count_refused : (s : List ℕ) {n p : ℕ} → job_trouble s ≡ At n p → Refused n p ≡ count_answer s
 unfolding count_answer
-count_refused s e t = rw (read_refused s e t)
+count_refused s t = rw t
 
 pub count_done : (s : List ℕ) (j : Job) → ClearJob s j → Done j.runs ≡ count_answer s
 unfolding count_answer
 count_done s j ok = rw ok.clear (ap Done (count_of_runs s j ok))
 
-pub number_refused : (s : List ℕ) {j : Job} {n p : ℕ} (index : ℕ) → j ≡ read_job s → j.trouble ≡ At n p → Refused n p ≡ number_answer s index
+pub number_refused : (s : List ℕ) {n p : ℕ} (index : ℕ) → job_trouble s ≡ At n p → Refused n p ≡ number_answer s index
 unfolding number_answer
-number_refused s index e t = rw (read_refused s e t)
+number_refused s index t = rw t
 
 pub number_past : (s : List ℕ) (j : Job) (index : ℕ) → ClearJob s j → j.runs ≤ index → Refused 10 0 ≡ number_answer s index
 unfolding number_answer

@@ -1,13 +1,10 @@
 -- What the calls that count a job's runs answer: the reader's refusal 1 to 8 first.
 use Rattle.std.specs.Prelude.{ℕ, cond, List, leb}
-use Rattle.fields.specs.declared.trouble.Trouble.{Trouble}
-use Rattle.fields.specs.declared.trouble.Trouble.TheVariants.{Clear, At}
+use Rattle.fields.specs.Trouble.{Trouble, Clear, At}
 use Rattle.opening.specs.Opening.{run_count_of}
 use Rattle.job.specs.Places.{run_of}
 use Rattle.job.specs.Troubles.{job_trouble}
-use Rattle.output.specs.declared.Answer.{Answer}
-use Rattle.output.specs.declared.Answer.TheVariants.{Done, Refused}
-use Rattle.output.specs.Answers.{unknown_run}
+use Rattle.output.specs.Answers.{Answer, Done, Refused, unknown_run}
 
 -- How many runs there are
 abbrev pub count_of : Trouble → List ℕ → Answer

@@ -1,2 +1,3 @@
 -- The certificate days behind a finding.
+pub mod Side
 pub mod Dates

@@ -3,22 +3,25 @@
 
 #![tactic(auto)]
 
-ghost use Rattle.std.specs.Prelude.{◌≡◌, true, false, ◌≤◌, length};
-ghost use Rattle.opening.specs.Opening.{version_of};
-ghost use Rattle.heads.specs.Values.{certificate_place, certificate_of};
+ghost use Rattle.std.specs.Prelude.{◌≡◌, true};
+ghost use Rattle.heads.specs.Values.{certificate_of};
 ghost use Rattle.choosing.specs.Choosing.{chosen};
+ghost use Rattle.dates.specs.Side.{side_number};
 ghost use Rattle.dates.specs.Dates.{worked_use, meter_use, pitot_use, nozzle_use, day_of, sides_of, days_of, entries_on, entries_of, entries};
 
 use certs::choose;
-use choosing::Lookup;
+use choosing::Wanted;
+use heads::certificate::Certificates;
 use readings::certificates::CertificateKind;
 use readings::headers::Version;
-use records::{Identity, RunHeader};
+use records::RunHeader;
 
 // The sides of the run's day: on it or before it, and later.
-pub const BEFORE: u8 = 1;
-
-pub const AFTER: u8 = 2;
+#[derive(Clone, Copy)]
+pub enum Side {
+    Before,
+    After,
+}
 
 // On which sides of the run's day a rule uses certificates of a kind.
 #[derive(Clone, Copy)]
@@ -51,42 +54,51 @@ pub struct Days {
     pub nozzle: Sides,
 }
 
+impl Side {
+    pub fn number(self) -> u8
+        ensures { result ≡ side_number self }
+    {
+        match self {
+            Side::Before => 1,
+            Side::After => 2,
+        }
+    }
+}
+
 impl Day {
     // 1 for a side that is used, and 0 for one that is not.
+    #[tactic(auto, unfolding(crate::specs::Dates::entries_on))]
     fn entries(self) -> u8
         ensures { result ≡ entries_on self }
     {
         match self {
             Day::Unused => 0,
-            Day::On(_day) => 1,
-            Day::NoneSoDated => 1,
+            Day::On(_) | Day::NoneSoDated => 1,
         }
     }
 }
 
 impl Sides {
+    #[tactic(auto, using(crate::proofs::Entries::one_a_side), unfolding(crate::specs::Dates::entries_of))]
     fn entries(self) -> u8
         ensures { result ≡ entries_of self }
     {
-        let before = self.before;
-        let after = self.after;
-        before.entries() + after.entries()
+        self.before.entries() + self.after.entries()
     }
 }
 
 impl Days {
     // How many sides are used, of all kinds.
+    #[tactic(auto, using(crate::proofs::Entries::two_a_kind), unfolding(crate::specs::Dates::entries))]
     pub fn entries(self) -> u8
         ensures { result ≡ entries self }
     {
-        let meter = self.meter;
-        let pitot = self.pitot;
-        let nozzle = self.nozzle;
-        meter.entries() + pitot.entries() + nozzle.entries()
+        self.meter.entries() + self.pitot.entries() + self.nozzle.entries()
     }
 }
 
 // The meter's, for a line that is worked with Y: in version 1 the later factor counts too.
+#[tactic(auto, unfolding(crate::specs::Dates::worked_use))]
 fn worked_use(v: Version) -> Use
     ensures { result ≡ worked_use v }
 {
@@ -97,78 +109,56 @@ fn worked_use(v: Version) -> Use
 }
 
 // The meter's, by the rule.
+#[tactic(auto, unfolding(crate::specs::Dates::meter_use))]
 fn meter_use(v: Version, rule: u8) -> Use
     ensures { result ≡ meter_use v rule }
 {
     match rule {
-        1 => Use::Both,
-        4 => Use::Both,
-        5 => Use::Both,
-        14 => worked_use(v),
-        15 => worked_use(v),
-        16 => worked_use(v),
+        1 | 4 | 5 => Use::Both,
+        14 | 15 | 16 => worked_use(v),
         _ => Use::Neither,
     }
 }
 
 // The pitot tube's.
+#[tactic(auto, unfolding(crate::specs::Dates::pitot_use))]
 fn pitot_use(rule: u8) -> Use
     ensures { result ≡ pitot_use rule }
 {
     match rule {
         2 => Use::Both,
-        14 => Use::Before,
-        15 => Use::Before,
-        16 => Use::Before,
+        14 | 15 | 16 => Use::Before,
         _ => Use::Neither,
     }
 }
 
 // The nozzle's.
+#[tactic(auto, unfolding(crate::specs::Dates::nozzle_use))]
 fn nozzle_use(rule: u8) -> Use
     ensures { result ≡ nozzle_use rule }
 {
     match rule {
         3 => Use::Both,
-        6 => Use::Before,
-        15 => Use::Before,
-        16 => Use::Before,
+        6 | 15 | 16 => Use::Before,
         _ => Use::Neither,
     }
 }
 
-// The day of the nearest certificate on one side, among the first `count` of a file.
-fn day_on(
-    s: &[u8],
-    v: Version,
-    count: usize,
-    kind: u8,
-    identity: Identity,
-    day: u16,
-    after: bool,
-) -> Day
-    requires { (v ≡ version_of s.now) × (certificate_place v count ≤ length s.now) }
-    ensures { result ≡ day_of (chosen after kind identity day (certificate_of s.now) count) }
+// The day of the certificate that is wanted, among those of a file.
+#[tactic(auto, unfolding(crate::specs::Dates::day_of))]
+fn day_on(all: Certificates<'_>, wanted: Wanted) -> Day
+    ensures { result ≡ day_of (chosen wanted.after wanted.kind wanted.identity wanted.day (certificate_of all.entry.file.bytes.now) all.entry.count) }
 {
-    let found = choose(s, v, count, kind, identity, day, after);
-    let Lookup::Found(c) = found else {
+    let Some(c) = choose(all, wanted) else {
         return Day::NoneSoDated;
     };
     Day::On(c.day)
 }
 
-// The days of a kind. A certificate is looked for only where it is used.
-fn sides_of(
-    s: &[u8],
-    v: Version,
-    count: usize,
-    kind: u8,
-    identity: Identity,
-    day: u16,
-    used: Use,
-) -> Sides
-    requires { (v ≡ version_of s.now) × (certificate_place v count ≤ length s.now) }
-    ensures { result ≡ sides_of used (chosen false kind identity day (certificate_of s.now) count) (chosen true kind identity day (certificate_of s.now) count) }
+// The days of a kind, of which the certificate before is given. A certificate is looked for only where it is used.
+#[tactic(auto, unfolding(crate::specs::Dates::sides_of))]
+fn sides_of(all: Certificates<'_>, before: Wanted, used: Use) -> Sides
+    ensures { result ≡ sides_of used (chosen before.after before.kind before.identity before.day (certificate_of all.entry.file.bytes.now) all.entry.count) (chosen true before.kind before.identity before.day (certificate_of all.entry.file.bytes.now) all.entry.count) }
 {
     match used {
         Use::Neither => Sides {
@@ -176,48 +166,27 @@ fn sides_of(
             after: Day::Unused,
         },
         Use::Before => Sides {
-            before: day_on(s, v, count, kind, identity, day, false),
+            before: day_on(all, before),
             after: Day::Unused,
         },
         Use::Both => Sides {
-            before: day_on(s, v, count, kind, identity, day, false),
-            after: day_on(s, v, count, kind, identity, day, true),
+            before: day_on(all, before),
+            after: day_on(all, before.later()),
         },
     }
 }
 
-// The days that a rule uses, of a run and the first `count` certificates of a file.
-pub fn days_of(s: &[u8], v: Version, count: usize, header: RunHeader, rule: u8) -> Days
-    requires { (v ≡ version_of s.now) × (certificate_place v count ≤ length s.now) }
-    ensures { result ≡ days_of v (certificate_of s.now) count header rule }
+// The days that a rule uses, of a run and the certificates of a file.
+#[tactic(auto, unfolding(crate::specs::Dates::days_of))]
+pub fn days_of(all: Certificates<'_>, header: RunHeader, rule: u8) -> Days
+    ensures { result ≡ days_of all.entry.file.version (certificate_of all.entry.file.bytes.now) all.entry.count header rule }
 {
+    let meter = Wanted::before(CertificateKind::METER, header.meter, header.day);
+    let pitot = Wanted::before(CertificateKind::PITOT, header.pitot, header.day);
+    let nozzle = Wanted::before(CertificateKind::NOZZLE, header.nozzle, header.day);
     Days {
-        meter: sides_of(
-            s,
-            v,
-            count,
-            CertificateKind::METER,
-            header.meter,
-            header.day,
-            meter_use(v, rule),
-        ),
-        pitot: sides_of(
-            s,
-            v,
-            count,
-            CertificateKind::PITOT,
-            header.pitot,
-            header.day,
-            pitot_use(rule),
-        ),
-        nozzle: sides_of(
-            s,
-            v,
-            count,
-            CertificateKind::NOZZLE,
-            header.nozzle,
-            header.day,
-            nozzle_use(rule),
-        ),
+        meter: sides_of(all, meter, meter_use(all.file.version, rule)),
+        pitot: sides_of(all, pitot, pitot_use(rule)),
+        nozzle: sides_of(all, nozzle, nozzle_use(rule)),
     }
 }

@@ -1,4 +1,6 @@
 -- No two answers that a call can give are one number.
+use Rattle.std.specs.Prelude.{Option, Some, None}
+use Rattle.explaining.specs.declared.Explanation.{Explanation}
 use Prim.Native.Nat.{ℕ, ◌*◌, ◌^◌, ◌≤◌, ◌<◌}
 use mathlib.Core.Path.{◌≡◌, refl, ap, ap₂}
 use mathlib.Core.Bool.{Bool, true, false, cond, ◌||◌}
@@ -10,8 +12,7 @@ use lib.Dec.{leb, ltb, lit≤, lit<}
 use lib.ListN.{length}
 use Rattle.readings.specs.Ranges.{least_run_number, greatest_run_number}
 use Rattle.readings.proofs.Ranges.{within_greatest}
-use Rattle.fields.specs.declared.trouble.Trouble.{Trouble}
-use Rattle.fields.specs.declared.trouble.Trouble.TheVariants.{Clear, At}
+use Rattle.fields.specs.Trouble.{Trouble, Clear, At}
 use Rattle.findings.specs.Listing.{most_findings}
 use Rattle.steps.specs.declared.Figure.{Figure}
 use Rattle.opening.specs.Opening.{run_count_of}
@@ -22,8 +23,6 @@ use Rattle.demands.proofs.Numbers.{numbers}
 use Rattle.job.proofs.Reach.{places}
 use Rattle.job.proofs.WholeFile.{run_count_lem}
 use Rattle.reduction.specs.declared.Reduced.{Reduced}
-use Rattle.reduction.specs.declared.Which.{Which}
-use Rattle.reduction.specs.declared.Which.TheVariants.{Index, NoRun}
 use Rattle.reduction.specs.Reducing.{reduced_run, run_named}
 use Rattle.reduction.proofs.ClearJobs.{found_few}
 use Rattle.reduction.proofs.Naming.{found_inside}
@@ -40,8 +39,6 @@ use Rattle.layouts.specs.Outcomes.{distance_size, if_room, lent_outcome, layout_
 use Rattle.handing.specs.Handing.{refused, reduced, handed, success, answer_of}
 use Rattle.counting.specs.Counting.{count_of, count_answer, number_at, number_answer}
 use Rattle.runs.specs.Outcomes.{of_run, of_trouble, outcome, unless_bad_figure}
-use Rattle.explaining.specs.declared.Explained.{Explained}
-use Rattle.explaining.specs.declared.Explained.TheVariants.{NoFinding, Because}
 use Rattle.explaining.specs.Explaining.{explained_run}
 use Rattle.forms.specs.declared.Form.{Form}
 use Rattle.explanations.specs.Written.{written}
@@ -50,9 +47,7 @@ use Rattle.asking.specs.Outcomes.{of_explained, of_named_run, unless_job_trouble
 use Rattle.demands.specs.FigureFile.{Lent, supplied, figure_in}
 use Rattle.demands.proofs.FigureFile.{bad_lent}
 use Rattle.demands.specs.Demands.{Given, to_reduce, to_run_count, to_run_number, to_sheet_text, to_explain, to_round_layout, to_rect_layout}
-use Rattle.output.specs.declared.Answer.{Answer}
-use Rattle.output.specs.declared.Answer.TheVariants.{Done, Refused}
-use Rattle.output.specs.Answers.{packed}
+use Rattle.output.specs.Answers.{Answer, Done, Refused, packed}
 
 -- a value below 2^32; a refusal with a number, at a place below 2^32
 abbrev Tellable : Answer → Type 0
@@ -91,9 +86,9 @@ reduce_told fig s run lines findings = by_trouble (job_trouble s) refl
     by_room r true few = (lit≤ tt, lit< tt)
     by_room r false few = success_told r.findings.count r.accepted few
 
-    by_number : job_trouble s ≡ Clear → (which : Which) → run_named (run_of s) run (run_count_of s) ≡ which → Tellable (answer_of (of_run fig s which lines findings))
-    by_number clear NoRun e = (lit≤ tt, lit< tt)
-    by_number clear (Index k) e = by_room (reduced_run fig s k) (ltb lines sheet_size || ltb findings (finding_size * (reduced_run fig s k).findings.count)) (found_few fig s clear k (found_inside (run_of s) run (run_count_of s) e))
+    by_number : job_trouble s ≡ Clear → (which : Option ℕ) → run_named (run_of s) run (run_count_of s) ≡ which → Tellable (answer_of (of_run fig s which lines findings))
+    by_number clear None e = (lit≤ tt, lit< tt)
+    by_number clear (Some k) e = by_room (reduced_run fig s k) (ltb lines sheet_size || ltb findings (finding_size * (reduced_run fig s k).findings.count)) (found_few fig s clear k (found_inside (run_of s) run (run_count_of s) e))
 
     by_trouble : (t : Trouble) → job_trouble s ≡ t → Tellable (answer_of (of_trouble t fig s run lines findings))
     by_trouble (At n p) e = reader_told s e
@@ -139,13 +134,13 @@ explain_told form fig s run rule place room = by_trouble (job_trouble s) refl
     by_room text true few = (lit≤ tt, lit< tt)
     by_room text false few = omega (arith, few)
 
-    by_finding : (x : Explained) → Tellable (printing_answer (of_explained form x room))
-    by_finding NoFinding = (lit≤ tt, lit< tt)
-    by_finding (Because e) = by_room (written form e) (ltb room (length (written form e))) (written_short form e)
+    by_finding : (x : Option Explanation) → Tellable (printing_answer (of_explained form x room))
+    by_finding None = (lit≤ tt, lit< tt)
+    by_finding (Some e) = by_room (written form e) (ltb room (length (written form e))) (written_short form e)
 
-    by_number : (which : Which) → Tellable (printing_answer (of_named_run form fig s which rule place room))
-    by_number NoRun = (lit≤ tt, lit< tt)
-    by_number (Index k) = by_finding (explained_run fig s k rule place)
+    by_number : (which : Option ℕ) → Tellable (printing_answer (of_named_run form fig s which rule place room))
+    by_number None = (lit≤ tt, lit< tt)
+    by_number (Some k) = by_finding (explained_run fig s k rule place)
 
     by_trouble : (t : Trouble) → job_trouble s ≡ t → Tellable (printing_answer (unless_job_trouble form t fig s run rule place room))
     by_trouble (At n p) e = reader_told s e

@@ -10,9 +10,7 @@ use lib.Dec.{leb, ltb, lit≤}
 use lib.ListN.{length, drop, take, length-drop, length-append, take-append-drop}
 use lib.Seq.{take_all, take-take, length-take-le}
 use Rattle.readings.specs.Ranges.{greatest_run_count, greatest_certificate_count}
-use Rattle.fields.specs.declared.trouble.Trouble.{Trouble}
-use Rattle.fields.specs.declared.trouble.Trouble.TheVariants.{Clear, At}
-use Rattle.fields.specs.Trouble.{first, trouble_unless, repeated, wrong_seconds, left_over, Row, checks, from, up_to, record_trouble}
+use Rattle.fields.specs.Trouble.{Trouble, Clear, At, first, trouble_unless, repeated, wrong_seconds, left_over, Row, checks, from, up_to, record_trouble}
 use Rattle.fields.proofs.FirstTrouble.{clear_left}
 use Rattle.records.specs.declared.Counts.{Counts}
 use Rattle.records.specs.declared.Point.{Point}

@@ -8,9 +8,8 @@ use borrow.Author.Tests.{ne_eqb}
 use lib.ListN.{replicate}
 use Rattle.readings.specs.declared.headers.Version.{Version}
 use Rattle.readings.specs.Ranges.{within, signed_within}
-use Rattle.fields.specs.declared.trouble.Trouble.TheVariants.{Clear}
 use Rattle.fields.specs.Numbers.{u16_at, u32_at, i16_at}
-use Rattle.fields.specs.Trouble.{first, checks, record_trouble, up_to}
+use Rattle.fields.specs.Trouble.{Clear, first, checks, record_trouble, up_to}
 use Rattle.records.specs.declared.Run.{Run}
 use Rattle.records.specs.Records.{same_identity, sum_to}
 use Rattle.lines.specs.declared.Lines.{Lines}

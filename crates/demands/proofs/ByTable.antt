@@ -10,9 +10,7 @@ use lib.Dec.{leb, ltb, eqb, lit≤}
 use lib.ListN.{length}
 use Rattle.readings.specs.Ranges.{within, least_version, greatest_version, version, greatest_total_seconds, total_seconds}
 use Rattle.readings.proofs.Ranges.{within_least, within_greatest}
-use Rattle.fields.specs.declared.trouble.Trouble.{Trouble}
-use Rattle.fields.specs.declared.trouble.Trouble.TheVariants.{Clear, At}
-use Rattle.fields.specs.Trouble.{first, trouble_unless, repeated, wrong_seconds, left_over, Row}
+use Rattle.fields.specs.Trouble.{Trouble, Clear, At, first, trouble_unless, repeated, wrong_seconds, left_over, Row}
 use Rattle.fields.proofs.FirstTrouble.{first_clear, first_at, unless_clear, told, each, checks_told, stops}
 use Rattle.fields.specs.Numbers.{u16_at}
 use Rattle.opening.specs.Opening.{file_header_size, version_of, certificate_count_of, run_count_of, file_rows, file_trouble}

@@ -1,4 +1,5 @@
 -- Demand 1. Every call is refused by a row of the table, with nothing written, or it reduces a run; and where a row applies, that is the answer.
+use Rattle.std.specs.Prelude.{Option, Some, None}
 use Prim.Native.Nat.{ℕ, ◌*◌, ◌≤◌, ◌<◌}
 use mathlib.Core.Path.{◌≡◌, refl, sym, ◌∙◌, ap}
 use mathlib.Core.Bool.{Bool, true, false}
@@ -7,14 +8,11 @@ use mathlib.Core.Logic.{◌⊎◌, inl, inr}
 use borrow.Author.Tests.{ltb-true, ltb-false, lt-ltb, le-ltb}
 use lib.Dec.{ltb}
 use lib.ListN.{length}
-use Rattle.fields.specs.declared.trouble.Trouble.{Trouble}
-use Rattle.fields.specs.declared.trouble.Trouble.TheVariants.{Clear, At}
+use Rattle.fields.specs.Trouble.{Trouble, Clear, At}
 use Rattle.opening.specs.Opening.{run_count_of}
 use Rattle.job.specs.Places.{run_of}
 use Rattle.job.specs.Troubles.{job_trouble}
 use Rattle.entries.proofs.LookBack.{or_true}
-use Rattle.reduction.specs.declared.Which.{Which}
-use Rattle.reduction.specs.declared.Which.TheVariants.{Index, NoRun}
 use Rattle.reduction.specs.declared.Reduced.{Reduced}
 use Rattle.reduction.specs.Reducing.{reduced_run, run_named}
 use Rattle.reduction.proofs.Naming.{found_inside, named, none_named}
@@ -99,9 +97,9 @@ module _ (c : Call) (kept : Promised c) where
   by_room figure clear k inside number false true e f = from_row 9 0 (row9 figure (clear_job c.job clear) k inside number (inr (ltb-true _ _ f)))
   by_room figure clear k inside number false false e f = to_run k (reducing figure clear k inside number (ltb-false _ _ e) (ltb-false _ _ f))
 
-  by_number : GoodLent c.figure → job_trouble c.job ≡ Clear → (which : Which) → run_named (run_of c.job) c.run (run_count_of c.job) ≡ which → CameTo c
-  by_number figure clear NoRun e = from_row 10 0 (row10 figure (clear_job c.job clear) (none_named (run_of c.job) c.run (run_count_of c.job) e))
-  by_number figure clear (Index k) e =
+  by_number : GoodLent c.figure → job_trouble c.job ≡ Clear → (which : Option ℕ) → run_named (run_of c.job) c.run (run_count_of c.job) ≡ which → CameTo c
+  by_number figure clear None e = from_row 10 0 (row10 figure (clear_job c.job clear) (none_named (run_of c.job) c.run (run_count_of c.job) e))
+  by_number figure clear (Some k) e =
       by_room figure clear k (found_inside (run_of c.job) c.run (run_count_of c.job) e) (named (run_of c.job) c.run (run_count_of c.job) e) _ _ refl refl
 
   by_trouble : GoodLent c.figure → (t : Trouble) → job_trouble c.job ≡ t → CameTo c

@@ -15,15 +15,15 @@ use Rattle.parts.specs.Values.{run_at}
 use Rattle.job.specs.Places.{run_start, run_of}
 use Rattle.entries.specs.Entries.{any_to}
 use Rattle.job.specs.Troubles.{parts_trouble, run_trouble, number_before, job_trouble}
-use Rattle.job.specs.Reading.{read_job}
+use Rattle.job.specs.Reading.{job_in, ClearJob}
 use Rattle.job.specs.Worked.{worked_job, worked_read, Refusal, refusals}
 
 pub worked :
     (v : Version)
-    → (read_job (worked_job v) ≡ worked_read v) × (map (certificate_of (worked_job v)) (0 ∷ 1 ∷ 2 ∷ 3 ∷ []) ≡ worked_certificates) × (run_of (worked_job v) 0 ≡ worked_run)
-unfolding u16_at u32_at i16_at version_of first checks up_to within signed_within same_identity sum_to padded run_at record_trouble run_start any_to parts_trouble run_trouble number_before job_trouble read_job
-worked One = (refl, refl, refl)
-worked Two = (refl, refl, refl)
+    → ClearJob (worked_job v) (worked_read v) × (map (certificate_of (worked_job v)) (0 ∷ 1 ∷ 2 ∷ 3 ∷ []) ≡ worked_certificates) × (run_of (worked_job v) 0 ≡ worked_run)
+unfolding u16_at u32_at i16_at version_of first checks up_to within signed_within same_identity sum_to padded run_at record_trouble run_start any_to parts_trouble run_trouble number_before job_trouble job_in
+worked One = (record { is = refl; clear = refl }, refl, refl)
+worked Two = (record { is = refl; clear = refl }, refl, refl)
 
 -- each file of a list is answered as the list says
 abbrev pub Answered : List Refusal → Type 0

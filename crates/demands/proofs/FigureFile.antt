@@ -6,8 +6,7 @@ use mathlib.Core.List.{List}
 use native.Mathlib.Omega.{arith}
 use borrow.Author.Tests.{leb-true, eqb-true}
 use lib.Dec.{leb, eqb}
-use Rattle.fields.specs.declared.trouble.Trouble.TheVariants.{Clear, At}
-use Rattle.fields.specs.Trouble.{checks}
+use Rattle.fields.specs.Trouble.{Clear, At, checks}
 use Rattle.fields.proofs.FirstTrouble.{told, checks_clear, clear_not_at}
 use Rattle.readings.proofs.Ranges.{both_left, both_right}
 use Rattle.figures.specs.Figures.{longest_figure, figure_rows, figure_trouble}

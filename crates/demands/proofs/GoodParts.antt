@@ -9,9 +9,7 @@ use borrow.Author.Tests.{le-leb, lt-ltb, eq-eqb, eqb-true, not-true}
 use lib.Dec.{ltb, eqb, lit≤}
 use Rattle.readings.specs.Ranges.{within, least_run_number, greatest_run_number, greatest_total_seconds}
 use Rattle.readings.proofs.Ranges.{both_left, both_right, within_least, within_greatest}
-use Rattle.fields.specs.declared.trouble.Trouble.{Trouble}
-use Rattle.fields.specs.declared.trouble.Trouble.TheVariants.{Clear}
-use Rattle.fields.specs.Trouble.{trouble_unless, repeated, wrong_seconds, left_over, record_trouble, up_to}
+use Rattle.fields.specs.Trouble.{Trouble, Clear, trouble_unless, repeated, wrong_seconds, left_over, record_trouble, up_to}
 use Rattle.fields.proofs.FirstTrouble.{first_clear, clear_left, clear_right, unless_clear, each_clear}
 use Rattle.fields.proofs.RecordTrouble.{complete_at, good_at}
 use Rattle.records.specs.declared.Certificate.{Certificate}

@@ -1,4 +1,5 @@
 -- 98 findings are reached: a run in range without certificates, whose every point, segment and weighing breaks its rule.
+use Rattle.std.specs.Prelude.{None}
 use mathlib.Core.Path.{◌≡◌, refl}
 use lib.IntN.{pos}
 use lib.ListN.{length, replicate, get_or-replicate}
@@ -18,7 +19,6 @@ use Rattle.metering.specs.Metering.{time, metered_volume, allowance, leak_loss, 
 use Rattle.stack.specs.Stack.{wet_weight, density_root, velocity, stack}
 use Rattle.sampling.specs.Sampling.{drawn_gas, isokinetic, deduction, final_weights, tares, catch, sampling}
 use Rattle.lines.specs.Sheet.{lines}
-use Rattle.choosing.specs.declared.Lookup.TheVariants.{Nothing}
 use Rattle.choosing.specs.declared.Chosen.{Chosen}
 use Rattle.grounds.specs.Comparing.{holds, apart}
 use Rattle.factors.specs.Factor.{factor_of, coefficient_of, diameters_of}
@@ -72,7 +72,7 @@ full_run =
     }
 
 no_certificates : Chosen
-no_certificates = record { before = Nothing; after = Nothing; pitot = Nothing; nozzle = Nothing }
+no_certificates = record { before = None; after = None; pitot = None; nozzle = None }
 
 full_in_range : RunOk full_run
 unfolding full_run point segment filter within signed_within sum_to

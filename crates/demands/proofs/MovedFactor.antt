@@ -1,4 +1,5 @@
 -- A meter that moved: what each version makes of it, and two jobs of different versions that differ for it though they hold the same records.
+use Rattle.std.specs.Prelude.{Option, Some, None}
 use Prim.Native.Nat.{ℕ, zero, suc, ◌*◌, ◌≤◌, ◌<◌}
 use mathlib.Core.Path.{◌≡◌, refl, sym, ◌∙◌, ap}
 use mathlib.Core.Bool.{true}
@@ -10,17 +11,13 @@ use Rattle.readings.specs.declared.headers.Version.{Version}
 use Rattle.readings.specs.declared.headers.Version.TheVariants.{One, Two}
 use Rattle.readings.specs.Ranges.{within, signed_within}
 use Rattle.arrays.specs.Arrays.{padded}
-use Rattle.fields.specs.declared.trouble.Trouble.TheVariants.{Clear}
 use Rattle.fields.specs.Numbers.{u16_at, u32_at, i16_at}
-use Rattle.fields.specs.Trouble.{first, checks, up_to, record_trouble}
+use Rattle.fields.specs.Trouble.{Clear, first, checks, up_to, record_trouble}
 use Rattle.records.specs.declared.Certificate.{Certificate}
 use Rattle.records.specs.declared.Identity.{Identity}
 use Rattle.records.specs.declared.Run.{Run}
 use Rattle.records.specs.Records.{same_identity, sum_to}
 use Rattle.records.specs.Worked.{worked_run}
-use Rattle.values.specs.declared.Value.TheVariants.{Known}
-use Rattle.choosing.specs.declared.Lookup.{Lookup}
-use Rattle.choosing.specs.declared.Lookup.TheVariants.{Found, Nothing}
 use Rattle.choosing.specs.declared.Chosen.{Chosen}
 use Rattle.choosing.specs.Choosing.{eligible, keep, chosen, chosen_for, SameMembers}
 use Rattle.grounds.specs.Comparing.{holds, apart}
@@ -63,10 +60,10 @@ lower_and_note ch =
 
 -- In version 2
 
-before_factor : (b : Certificate) (after : Lookup) → factor_from Two (Found b) after ≡ Known b.first
+before_factor : (b : Certificate) (after : Option Certificate) → factor_from Two (Some b) after ≡ Some b.first
 unfolding factor
-before_factor b Nothing = refl
-before_factor b (Found a) = refl
+before_factor b None = refl
+before_factor b (Some a) = refl
 
 pub before_and_void : (fig : Figure) (r : Run) (ch : Chosen) → BeforeAndVoid fig r ch
 unfolding factor_of findings_for class_of

@@ -1,17 +1,16 @@
 -- Which run a call reduces: the only one of its number.
+use Rattle.std.specs.Prelude.{Option, Some, None}
 use Prim.Native.Nat.{ℕ, ◌<◌}
 use mathlib.Core.Path.{◌≡◌, refl, sym, ◌∙◌, ap}
 use mathlib.Core.List.{List}
 use native.Mathlib.Decide.{dec_lt}
 use native.Mathlib.Omega.{arith}
-use Rattle.fields.specs.declared.trouble.Trouble.TheVariants.{Clear}
+use Rattle.fields.specs.Trouble.{Clear}
 use Rattle.steps.specs.declared.Figure.{Figure}
 use Rattle.opening.specs.Opening.{run_count_of}
 use Rattle.job.specs.Places.{run_of}
 use Rattle.job.specs.Troubles.{job_trouble}
 use Rattle.job.proofs.ClearJobs.{rising}
-use Rattle.reduction.specs.declared.Which.{Which}
-use Rattle.reduction.specs.declared.Which.TheVariants.{Index, NoRun}
 use Rattle.reduction.specs.Reducing.{reduced_run, run_named}
 use Rattle.reduction.proofs.Naming.{found_inside, named, none_named}
 use Rattle.handing.specs.Handing.{refused, handed}
@@ -32,20 +31,20 @@ module _ (s : List ℕ) (run : ℕ) (clear : job_trouble s ≡ Clear) where
   only_run k inside number = record { inside = inside; number = number; only = λ j h e. one_of_number j k h inside (e ∙ sym number) }
 
   -- so the run of that number is the one found
-  pub found_by_number : (k : ℕ) → k < run_count_of s → (run_of s k).header.number ≡ run → run_named (run_of s) run (run_count_of s) ≡ Index k
+  pub found_by_number : (k : ℕ) → k < run_count_of s → (run_of s k).header.number ≡ run → run_named (run_of s) run (run_count_of s) ≡ Some k
   found_by_number k inside number = go (run_named (run_of s) run (run_count_of s)) refl
     where
-      go : (which : Which) → run_named (run_of s) run (run_count_of s) ≡ which → run_named (run_of s) run (run_count_of s) ≡ Index k
-      go NoRun e = absurd (none_named (run_of s) run (run_count_of s) e k inside number)
-      go (Index j) e = e ∙ ap Index (one_of_number j k (found_inside (run_of s) run (run_count_of s) e) inside (named (run_of s) run (run_count_of s) e ∙ sym number))
+      go : (which : Option ℕ) → run_named (run_of s) run (run_count_of s) ≡ which → run_named (run_of s) run (run_count_of s) ≡ Some k
+      go None e = absurd (none_named (run_of s) run (run_count_of s) e k inside number)
+      go (Some j) e = e ∙ ap Some (one_of_number j k (found_inside (run_of s) run (run_count_of s) e) inside (named (run_of s) run (run_count_of s) e ∙ sym number))
 
   -- and where no run has it none is found
-  pub not_found : ((k : ℕ) → k < run_count_of s → (run_of s k).header.number ≡ run → ⊥) → run_named (run_of s) run (run_count_of s) ≡ NoRun
+  pub not_found : ((k : ℕ) → k < run_count_of s → (run_of s k).header.number ≡ run → ⊥) → run_named (run_of s) run (run_count_of s) ≡ None
   not_found none = go (run_named (run_of s) run (run_count_of s)) refl
     where
-      go : (which : Which) → run_named (run_of s) run (run_count_of s) ≡ which → run_named (run_of s) run (run_count_of s) ≡ NoRun
-      go NoRun e = e
-      go (Index j) e = absurd (none j (found_inside (run_of s) run (run_count_of s) e) (named (run_of s) run (run_count_of s) e))
+      go : (which : Option ℕ) → run_named (run_of s) run (run_count_of s) ≡ which → run_named (run_of s) run (run_count_of s) ≡ None
+      go None e = e
+      go (Some j) e = absurd (none j (found_inside (run_of s) run (run_count_of s) e) (named (run_of s) run (run_count_of s) e))
 
   -- the outcome is that run's, or the refusal 10
   pub outcome_of_run : (fig : Figure) (k lines findings : ℕ) → k < run_count_of s → (run_of s k).header.number ≡ run → outcome fig s run lines findings ≡ handed (reduced_run fig s k) lines findings

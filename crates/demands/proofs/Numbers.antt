@@ -7,8 +7,7 @@ use borrow.Author.Tests.{leb-true}
 use lib.Dec.{leb, ltb}
 use lib.ListN.{length}
 use Rattle.parts.specs.Values.{point_size, segment_size, weighing_size}
-use Rattle.fields.specs.declared.trouble.Trouble.{Trouble}
-use Rattle.fields.specs.declared.trouble.Trouble.TheVariants.{At}
+use Rattle.fields.specs.Trouble.{Trouble, At}
 use Rattle.fields.proofs.FirstTrouble.{told, first_told, unless_told, up_told}
 use Rattle.records.specs.declared.Counts.{Counts}
 use Rattle.readings.proofs.Ranges.{both_left, both_right}

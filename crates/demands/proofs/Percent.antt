@@ -1,4 +1,5 @@
 -- Rules 15 and 16 judge a run by line 18's quotient before it is rounded.
+use Rattle.std.specs.Prelude.{Some, None}
 use Prim.Native.Nat.{ℕ, ◌*◌, ◌≤◌, ◌<◌}
 use mathlib.Core.Path.{◌≡◌, refl, sym, ◌∙◌, ap}
 use mathlib.Core.Bool.{Bool, true, false≢true}
@@ -12,7 +13,6 @@ use Rattle.readings.specs.declared.headers.Version.{Version}
 use Rattle.readings.specs.Ranges.{least_seconds}
 use Rattle.records.specs.declared.Run.{Run}
 use Rattle.records.specs.InRange.{RunOk}
-use Rattle.values.specs.declared.Ratio.TheVariants.{Exact, Unworked}
 use Rattle.values.specs.Promise.{rounded_ratio}
 use Rattle.metering.specs.Metering.{time, metering}
 use Rattle.metering.proofs.Passes.{is_time}
@@ -86,11 +86,11 @@ module _ (v : Version) (fig : Figure) (r : Run) (ch : Chosen) where
   unfolding places_of place_at beside_of broken_at table ground_of
   sixteen = whole v fig r ch 16 (omega arith) (omega arith) refl refl
 
-  worked : (l.sampling.isokinetic ≡ Unworked) ⊎ WorkedFrom l.sampling.drawn l.stack.velocity l.sampling.area l.metering.time
+  worked : (l.sampling.isokinetic ≡ None) ⊎ WorkedFrom l.sampling.drawn l.stack.velocity l.sampling.area l.metering.time
   unfolding lines_for lines sampling
   worked = worked_or_not _ _ _ _
 
-  not_judged : l.sampling.isokinetic ≡ Unworked → NotJudged v fig r ch
+  not_judged : l.sampling.isokinetic ≡ None → NotJudged v fig r ch
   unfolding broken ratio_against
   not_judged none =
       record {
@@ -104,7 +104,7 @@ module _ (v : Version) (fig : Figure) (r : Run) (ch : Chosen) where
   judged_exactly w some =
       let n : ℕ = dividend w.gas in
       let d : ℕ = divisor w.speed w.opening l.metering.time in
-      let is : l.sampling.isokinetic ≡ Exact (division n d) = w.is in
+      let is : l.sampling.isokinetic ≡ Some (division n d) = w.is in
       record {
         l1 = l.metering.time;
         l15 = w.speed;
@@ -127,6 +127,6 @@ judged_by_quotient v fig r ch ok certificates = go (worked v fig r ch)
     time_some : least_seconds ≤ time r.points r.header.counts.points
     time_some = (is_time r.points r.header.counts.points _ (points_ok r ok) (time_most_lem r ok) refl).low
 
-    go : ((lines_for v r ch).sampling.isokinetic ≡ Unworked) ⊎ WorkedFrom (lines_for v r ch).sampling.drawn (lines_for v r ch).stack.velocity (lines_for v r ch).sampling.area (lines_for v r ch).metering.time → NotJudged v fig r ch ⊎ JudgedExactly v fig r ch
+    go : ((lines_for v r ch).sampling.isokinetic ≡ None) ⊎ WorkedFrom (lines_for v r ch).sampling.drawn (lines_for v r ch).stack.velocity (lines_for v r ch).sampling.area (lines_for v r ch).metering.time → NotJudged v fig r ch ⊎ JudgedExactly v fig r ch
     go (inl none) = inl (not_judged v fig r ch none)
     go (inr w) = inr (judged_exactly v fig r ch w (divisor_some (diameters_range ch certificates) w.is_area w.moving time_some))

@@ -29,7 +29,6 @@ use Rattle.fields.specs.Trouble.{first, checks, record_trouble, up_to}
 use Rattle.arrays.specs.Arrays.{padded, filled_to}
 use Rattle.parts.specs.Values.{run_at}
 use Rattle.job.specs.Places.{run_start}
-use Rattle.job.specs.Reading.{read_job}
 use Rattle.entries.specs.Entries.{any_to}
 use Rattle.job.specs.Troubles.{parts_trouble, run_trouble, number_before, job_trouble}
 use Rattle.reduction.specs.Reducing.{worked, reduction, chosen_in, reduced_run, run_named}
@@ -45,7 +44,7 @@ use Rattle.demands.specs.MovedFactor.{Kept, Voided}
 use Rattle.demands.specs.ByFigure.{EitherWay}
 
 computed : PrintedJob × (Kept × (Voided × EitherWay))
-unfolding grown floor_root nearest_root round_div division within signed_within same_identity sum_to time metered_volume allowance leak_loss leak_losses corrected_volume mean_orifice meter_pressure meter_temperature dry_volume water_vapor moisture unless_zero add_scaled nozzle_area drawn_gas isokinetic deduction final_weights tares catch concentration metering stack sampling lines sheet dry_weight wet_weight stack_pressure stack_temperature point_root mean_root density_root velocity eligible keep chosen chosen_for holds deciding apart factor_moved lower_if_moved factor factor_of coefficient_of diameters_of broken broken_at finding_at rule_findings findings_to findings accepted listed lines_for findings_for missing moved uneven diameter half_diameter undisturbed no_figure reaches last_reached asked opening_rows steps_rows list_rows steps_at figure_trouble read_figure minimum_disturbed minimum_points next_of next_grid next_allowed short leaking line_against ratio_against steady_limit unsteady table ground_of part_of of_kind beside_of places_of place_at class_of u16_at u32_at i16_at version_of first checks up_to padded filled_to record_trouble run_at run_start read_job any_to parts_trouble run_trouble number_before job_trouble worked reduction chosen_in reduced_run run_named packed le spliced joined entry_bytes sheet_bytes finding_bytes findings_bytes handed outcome success answer_of lines_after findings_after worked_lines
+unfolding grown floor_root nearest_root round_div division within signed_within same_identity sum_to time metered_volume allowance leak_loss leak_losses corrected_volume mean_orifice meter_pressure meter_temperature dry_volume water_vapor moisture unless_zero add_scaled nozzle_area drawn_gas isokinetic deduction final_weights tares catch concentration metering stack sampling lines sheet dry_weight wet_weight stack_pressure stack_temperature point_root mean_root density_root velocity eligible keep chosen chosen_for holds deciding apart factor_moved lower_if_moved factor factor_of coefficient_of diameters_of broken broken_at finding_at rule_findings findings_to findings accepted listed lines_for findings_for missing moved uneven diameter half_diameter undisturbed no_figure reaches last_reached asked opening_rows steps_rows list_rows steps_at figure_trouble read_figure minimum_disturbed minimum_points next_of next_grid next_allowed short leaking line_against ratio_against steady_limit unsteady table ground_of part_of of_kind beside_of places_of place_at class_of u16_at u32_at i16_at version_of first checks up_to padded filled_to record_trouble run_at run_start any_to parts_trouble run_trouble number_before job_trouble worked reduction chosen_in reduced_run run_named packed le spliced joined entry_bytes sheet_bytes finding_bytes findings_bytes handed outcome success answer_of lines_after findings_after worked_lines
 computed = (
   record { answer = refl; lines = refl; findings = refl },
   (

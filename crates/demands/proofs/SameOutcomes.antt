@@ -3,7 +3,7 @@ use Prim.Native.Nat.{ℕ}
 use mathlib.Core.Path.{◌≡◌, ◌∙◌, ap}
 use mathlib.Core.List.{List}
 use lib.ListN.{length}
-use Rattle.figures.specs.declared.Supplied.{Supplied}
+use Rattle.figures.specs.Figures.{Supplied}
 use Rattle.output.specs.Answers.{packed}
 use Rattle.printed.specs.Printing.{printing_by, printing_answer, printing_out}
 use Rattle.handing.specs.Handing.{answer_of, lines_after, findings_after}

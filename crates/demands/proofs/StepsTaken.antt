@@ -11,7 +11,7 @@ use lib.Dec.{ltb}
 use lib.ListN.{get_or, replicate}
 use lib.Seq.{get_or-set_other}
 use Rattle.fields.specs.Numbers.{byte_at}
-use Rattle.fields.specs.declared.trouble.Trouble.TheVariants.{Clear}
+use Rattle.fields.specs.Trouble.{Clear}
 use Rattle.arrays.specs.Arrays.{padded}
 use Rattle.arrays.proofs.Arrays.{pad_at}
 use Rattle.readings.specs.Ranges.{greatest_step_count}

@@ -1,11 +1,11 @@
 -- Why no rule has the number 13: it would have spoken of a line 6 of 0, and there is none.
+use Rattle.std.specs.Prelude.{Some}
 use Prim.Native.Nat.{ℕ, ◌≤◌}
 use mathlib.Core.Path.{◌≡◌}
 use mathlib.Core.Bool.{false≢true}
 use Rattle.readings.specs.declared.headers.Version.{Version}
 use Rattle.records.specs.declared.Run.{Run}
 use Rattle.records.specs.InRange.{RunOk}
-use Rattle.values.specs.declared.Value.TheVariants.{Known}
 use Rattle.metering.proofs.DryVolume.{dry_some}
 use Rattle.lines.specs.declared.Lines.{Lines}
 use Rattle.lines.specs.Sheet.{lines}
@@ -20,7 +20,7 @@ use Rattle.findings.specs.Listing.{broken_at, findings, lines_for, HasFinding}
 use Rattle.findings.proofs.Members.{listed_exactly}
 
 -- For every run and certificates within the ranges, where line 3 is at least 1 and Y is known, line 6 is at least 1
-pub line_6_at_least_1 : (v : Version) (r : Run) (ch : Chosen) → RunOk r → ChosenOk ch → 1 ≤ (lines_for v r ch).metering.corrected → (y : ℕ) → factor_of v ch ≡ Known y → (line6 : ℕ) × (((lines_for v r ch).metering.dry ≡ Known line6) × (1 ≤ line6))
+pub line_6_at_least_1 : (v : Version) (r : Run) (ch : Chosen) → RunOk r → ChosenOk ch → 1 ≤ (lines_for v r ch).metering.corrected → (y : ℕ) → factor_of v ch ≡ Some y → (line6 : ℕ) × (((lines_for v r ch).metering.dry ≡ Some line6) × (1 ≤ line6))
 unfolding lines_for lines
 line_6_at_least_1 v r ch run certificates some y known =
     rw known (dry_some r y run ((factor_range v ch certificates).known y known).0 (rw known at some))

@@ -8,9 +8,7 @@ use native.Mathlib.Omega.{arith}
 use borrow.Author.Tests.{leb-true, leb-false}
 use lib.Dec.{leb}
 use lib.ListN.{length, drop, length-drop}
-use Rattle.fields.specs.declared.trouble.Trouble.{Trouble}
-use Rattle.fields.specs.declared.trouble.Trouble.TheVariants.{Clear, At}
-use Rattle.fields.specs.Trouble.{first, trouble_unless, Row, AllGood, checks, from, record_trouble, up_to}
+use Rattle.fields.specs.Trouble.{Trouble, Clear, At, first, trouble_unless, Row, AllGood, checks, from, record_trouble, up_to}
 use Rattle.fields.proofs.FirstTrouble.{clear_not_at, first_clear, first_at, unless_clear, checks_first}
 use Rattle.fields.proofs.RecordTrouble.{short_at, whole_at}
 use Rattle.demands.specs.Table.{FirstBad, here, later}

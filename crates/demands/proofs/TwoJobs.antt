@@ -6,7 +6,7 @@ use mathlib.Core.List.{List}
 use native.Mathlib.Decide.{dec_lt}
 use native.Mathlib.Omega.{arith}
 use lib.ListN.{length}
-use Rattle.fields.specs.declared.trouble.Trouble.TheVariants.{Clear}
+use Rattle.fields.specs.Trouble.{Clear}
 use Rattle.records.specs.declared.Run.{Run}
 use Rattle.choosing.specs.declared.Chosen.{Chosen}
 use Rattle.choosing.specs.Choosing.{Unique, Of}

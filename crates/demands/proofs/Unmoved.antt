@@ -1,4 +1,6 @@
 -- Where a run does not break rule 5, the version of its job changes neither its lines nor its findings.
+use Rattle.std.specs.Prelude.{Option, Some, None}
+use Rattle.records.specs.declared.Certificate.{Certificate}
 use Prim.Native.Nat.{ℕ, zero, suc, ◌+◌}
 use mathlib.Core.Path.{◌≡◌, refl, sym, ◌∙◌, ap, ap₂}
 use mathlib.Core.Bool.{Bool, true, false, cond, true≢false}
@@ -8,10 +10,7 @@ use borrow.Author.Tests.{ne_eqb}
 use Rattle.readings.specs.declared.headers.Version.{Version}
 use Rattle.readings.specs.declared.headers.Version.TheVariants.{One, Two}
 use Rattle.records.specs.declared.Run.{Run}
-use Rattle.values.specs.declared.Value.TheVariants.{Known}
 use Rattle.lines.specs.declared.Lines.{Lines}
-use Rattle.choosing.specs.declared.Lookup.{Lookup}
-use Rattle.choosing.specs.declared.Lookup.TheVariants.{Found, Nothing}
 use Rattle.choosing.specs.declared.Chosen.{Chosen}
 use Rattle.grounds.specs.Comparing.{holds}
 use Rattle.grounds.specs.Grounds.{broken}
@@ -33,12 +32,12 @@ unmoved_lower : (before after : ℕ) → holds (factor_moved before after) ≡ f
 unfolding lower_if_moved
 unmoved_lower before after e = rw e
 
-from_same : (v : Version) (b a : Lookup) → broken (moved b a) ≡ false → factor_from v b a ≡ factor_from Two b a
+from_same : (v : Version) (b a : Option Certificate) → broken (moved b a) ≡ false → factor_from v b a ≡ factor_from Two b a
 unfolding broken moved factor
-from_same v Nothing a e = refl
-from_same v (Found b) Nothing e = refl
-from_same Two (Found b) (Found a) e = refl
-from_same One (Found b) (Found a) e = ap Known (unmoved_lower b.first a.first e)
+from_same v None a e = refl
+from_same v (Some b) None e = refl
+from_same Two (Some b) (Some a) e = refl
+from_same One (Some b) (Some a) e = ap Some (unmoved_lower b.first a.first e)
 
 factor_same : (v : Version) (ch : Chosen) → Unmoved ch → factor_of v ch ≡ factor_of Two ch
 unfolding factor_of

@@ -7,10 +7,8 @@ use native.Mathlib.Omega.{arith}
 use native.Mathlib.Nat.{add_assoc}
 use lib.ListN.{drop}
 use lib.Seq.{get_or-drop}
-use Rattle.fields.specs.declared.trouble.Trouble.{Trouble}
-use Rattle.fields.specs.declared.trouble.Trouble.TheVariants.{Clear}
 use Rattle.fields.specs.Numbers.{byte_at, u16_at, u32_at, i16_at}
-use Rattle.fields.specs.Trouble.{Row, field, unless, checks, record_trouble}
+use Rattle.fields.specs.Trouble.{Trouble, Clear, Row, field, unless, checks, record_trouble}
 use Rattle.fields.proofs.FirstTrouble.{clear_last}
 use Rattle.readings.specs.declared.headers.Version.{Version}
 use Rattle.readings.specs.declared.headers.Version.TheVariants.{One, Two}

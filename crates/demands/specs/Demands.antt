@@ -1,9 +1,10 @@
 -- The three demands, each over a call to reduce, by a figure or without one, that keeps its promise: what it answered, and every byte
 -- afterwards.
 use Rattle.std.specs.Prelude.{ℕ, ◌-◌, ◌*◌, ◌^◌, ◌≤◌, ◌<◌, ◌≡◌, Bool, true, List, ◌⊎◌, ◌↔◌, length, take, drop, get_or}
-use Rattle.fields.specs.declared.trouble.Trouble.TheVariants.{Clear}
+use Rattle.fields.specs.Trouble.{Clear}
 use Rattle.choosing.specs.Choosing.{SameForRun}
-use Rattle.classes.specs.Classes.{fault, class_of}
+use Rattle.classes.specs.declared.Class.TheVariants.{Fault}
+use Rattle.classes.specs.Classes.{class_of}
 use Rattle.findings.specs.declared.Finding.{Finding}
 use Rattle.findings.specs.Listing.{most_findings, no_finding, lines_for, Breaks, HasFinding}
 use Rattle.heads.specs.Values.{certificate_of}
@@ -12,9 +13,7 @@ use Rattle.job.specs.Places.{run_of}
 use Rattle.job.specs.Troubles.{job_trouble}
 use Rattle.reduction.specs.Reducing.{chosen_in, reduced_run}
 use Rattle.lines.specs.Sheet.{line_count}
-use Rattle.output.specs.declared.Answer.{Answer}
-use Rattle.output.specs.declared.Answer.TheVariants.{Done, Refused}
-use Rattle.output.specs.Answers.{packed}
+use Rattle.output.specs.Answers.{Answer, Done, Refused, packed}
 use Rattle.output.specs.Splice.{spliced}
 use Rattle.writing.specs.Bytes.{line_size, entry_bytes, sheet_size, sheet_bytes, finding_size, finding_bytes, findings_bytes}
 use Rattle.printed.specs.Printing.{printing_by, printing_answer}
@@ -158,7 +157,7 @@ pub record Demand3 (c : Call) : Type 0 where
       → c.answer ≡ success count verdict
       → (count ≡ length list) × (verdict ≡ accepted)
   -- it is accepted exactly if none of them is a fault
-  pub stands : (accepted ≡ true) ↔ ((i : ℕ) → i < length list → (get_or list i no_finding).class ≡ fault → ⊥)
+  pub stands : (accepted ≡ true) ↔ ((i : ℕ) → i < length list → (get_or list i no_finding).class ≡ Fault → ⊥)
   -- the bytes of the i-th are the i-th of the list
   pub bytes : (i : ℕ) → i < length list → bytes_of_finding c.findings_out i ≡ finding_bytes (get_or list i no_finding)
 

@@ -1,16 +1,14 @@
 -- The twenty lines of docs/RULES.md: an equation each, by name, from the lines that it names.
-use Rattle.std.specs.Prelude.{ℕ, ◌-◌, List, [], ◌∷◌, ℤ, get_or}
+use Rattle.std.specs.Prelude.{Option, Some, ℕ, ◌-◌, List, [], ◌∷◌, ℤ, get_or}
+use Rattle.arith.specs.declared.Division.{Division}
 use Rattle.readings.specs.declared.headers.Version.{Version}
 use Rattle.records.specs.declared.Run.{Run}
 use Rattle.records.specs.declared.Point.{Point}
-use Rattle.values.specs.declared.Ratio.{Ratio}
-use Rattle.values.specs.declared.Value.{Value}
 use Rattle.values.specs.Promise.{rounded_ratio}
 use Rattle.metering.specs.Metering.{time, metered_volume, corrected_volume, mean_orifice, meter_pressure, meter_temperature, dry_volume, water_vapor, moisture}
 use Rattle.stack.specs.Stack.{dry_weight, wet_weight, stack_pressure, stack_temperature, mean_root, density_root, velocity}
 use Rattle.sampling.specs.Sampling.{nozzle_area, drawn_gas, isokinetic, catch, concentration}
 use Rattle.lines.specs.declared.Entry.{Entry}
-use Rattle.lines.specs.declared.Line.TheVariants.{Present}
 use Rattle.lines.specs.Sheet.{always, if_known, no_entry}
 use Rattle.choosing.specs.declared.Chosen.{Chosen}
 use Rattle.factors.specs.Factor.{factor_of, coefficient_of, diameters_of}
@@ -25,21 +23,21 @@ equations v r ch =
     let l3 : ℕ = corrected_volume l1 l2 r.segments r.header.counts.segments in
     let l4 : ℕ = meter_pressure r.header.pb (mean_orifice points n) in
     let l5 : ℕ = meter_temperature points n in
-    let l6 : Value = dry_volume l3 (factor_of v ch) l4 l5 in
+    let l6 : Option ℕ = dry_volume l3 (factor_of v ch) l4 l5 in
     let l7 : ℕ = water_vapor r.header.water in
-    let l8 : Value = moisture l6 l7 in
+    let l8 : Option ℕ = moisture l6 l7 in
     let l9 : ℕ = dry_weight r.header.co2 r.header.o2 in
-    let l10 : Value = wet_weight l9 l8 in
+    let l10 : Option ℕ = wet_weight l9 l8 in
     let l11 : ℕ = stack_pressure r.header.pb r.header.pg in
     let l12 : ℕ = stack_temperature points n in
     let l13 : ℕ = mean_root points n in
-    let l14 : Value = density_root l10 l11 l12 in
-    let l15 : Value = velocity (coefficient_of ch) l13 l14 in
-    let l16 : Value = nozzle_area (diameters_of ch) in
-    let l17 : Value = drawn_gas l6 l7 l11 l12 in
-    let l18 : Ratio = isokinetic l17 l15 l16 l1 in
+    let l14 : Option ℕ = density_root l10 l11 l12 in
+    let l15 : Option ℕ = velocity (coefficient_of ch) l13 l14 in
+    let l16 : Option ℕ = nozzle_area (diameters_of ch) in
+    let l17 : Option ℕ = drawn_gas l6 l7 l11 l12 in
+    let l18 : Option Division = isokinetic l17 l15 l16 l1 in
     let l19 : ℤ = catch r.weighings r.header.counts.weighings r.header.acetone in
-    let l20 : Value = concentration l19 l6 in
+    let l20 : Option ℕ = concentration l19 l6 in
     always l1
     ∷ always l2
     ∷ always l3
@@ -58,7 +56,7 @@ equations v r ch =
     ∷ if_known l16
     ∷ if_known l17
     ∷ if_known (rounded_ratio l18)
-    ∷ record { line = Present l19 }
+    ∷ record { line = Some l19 }
     ∷ if_known l20
     ∷ []
 

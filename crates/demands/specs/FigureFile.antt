@@ -7,8 +7,7 @@ use Rattle.diameters.specs.Diameters.{diameter}
 use Rattle.steps.specs.declared.Step.{Step}
 use Rattle.steps.specs.declared.Figure.{Figure}
 use Rattle.steps.specs.Steps.{points_for}
-use Rattle.figures.specs.declared.Supplied.{Supplied}
-use Rattle.figures.specs.Figures.{step_at, list_end, last_at, next_at, figure_rows, none_supplied, read_figure}
+use Rattle.figures.specs.Figures.{Supplied, step_at, list_end, last_at, next_at, figure_rows, none_supplied, read_figure}
 use Rattle.site.specs.Site.{next_allowed, minimum_points}
 
 -- what a call is given for a figure: no file, or one

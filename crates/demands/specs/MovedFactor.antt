@@ -1,15 +1,14 @@
 -- A meter that moved (docs/RULES.md, Choosing certificates): what each version makes of it, and why demand 3 compares two jobs of one version.
-use Rattle.std.specs.Prelude.{ℕ, ◌*◌, ◌<◌, min, ◌≡◌, true, List, [], ◌∷◌}
+use Rattle.std.specs.Prelude.{Some, None, ℕ, ◌*◌, ◌<◌, min, ◌≡◌, true, List, [], ◌∷◌}
 use Rattle.readings.specs.declared.headers.Version.TheVariants.{One, Two}
 use Rattle.records.specs.declared.Certificate.{Certificate}
 use Rattle.records.specs.declared.Run.{Run}
-use Rattle.values.specs.declared.Value.TheVariants.{Known, Missing}
 use Rattle.lines.specs.Starred.{worked_lines}
-use Rattle.choosing.specs.declared.Lookup.TheVariants.{Found, Nothing}
 use Rattle.choosing.specs.declared.Chosen.{Chosen}
 use Rattle.grounds.specs.Comparing.{apart}
 use Rattle.factors.specs.Factor.{factor_of}
-use Rattle.classes.specs.Classes.{fault, note, class_of}
+use Rattle.classes.specs.declared.Class.TheVariants.{Fault, Note}
+use Rattle.classes.specs.Classes.{class_of}
 use Rattle.steps.specs.declared.Figure.{Figure}
 use Rattle.steps.specs.Steps.{no_figure}
 use Rattle.findings.specs.Listing.{accepted, lines_for, findings_for, Breaks}
@@ -27,27 +26,27 @@ Moved before after = before < 20 * apart before after
 
 -- In version 1 a finding of rule 5 is a note, and Y is the lower factor where it moved, and otherwise the before factor
 pub record LowerAndNote (ch : Chosen) : Type 0 where
-  pub class : class_of One 5 ≡ note
+  pub class : class_of One 5 ≡ Note
   pub moved :
       (b a : Certificate)
-      → ch.before ≡ Found b
-      → ch.after ≡ Found a
+      → ch.before ≡ Some b
+      → ch.after ≡ Some a
       → Moved b.first a.first
-      → factor_of One ch ≡ Known (min b.first a.first)
+      → factor_of One ch ≡ Some (min b.first a.first)
   pub stayed :
       (b a : Certificate)
-      → ch.before ≡ Found b
-      → ch.after ≡ Found a
+      → ch.before ≡ Some b
+      → ch.after ≡ Some a
       → (Moved b.first a.first → ⊥)
-      → factor_of One ch ≡ Known b.first
-  pub alone : (b : Certificate) → ch.before ≡ Found b → ch.after ≡ Nothing → factor_of One ch ≡ Known b.first
-  pub missing : ch.before ≡ Nothing → factor_of One ch ≡ Missing
+      → factor_of One ch ≡ Some b.first
+  pub alone : (b : Certificate) → ch.before ≡ Some b → ch.after ≡ None → factor_of One ch ≡ Some b.first
+  pub missing : ch.before ≡ None → factor_of One ch ≡ None
 
 -- In version 2 a finding of rule 5 is a fault, so that a run which breaks it is void, and Y is always the before factor
 pub record BeforeAndVoid (fig : Figure) (r : Run) (ch : Chosen) : Type 0 where
-  pub class : class_of Two 5 ≡ fault
-  pub factor : (b : Certificate) → ch.before ≡ Found b → factor_of Two ch ≡ Known b.first
-  pub missing : ch.before ≡ Nothing → factor_of Two ch ≡ Missing
+  pub class : class_of Two 5 ≡ Fault
+  pub factor : (b : Certificate) → ch.before ≡ Some b → factor_of Two ch ≡ Some b.first
+  pub missing : ch.before ≡ None → factor_of Two ch ≡ None
   pub void : Breaks fig r ch (lines_for Two r ch) 5 0 → accepted (findings_for Two fig r ch) ≡ true → ⊥
 
 -- Two jobs of whatever versions hold the same records, and the run does not break rule 5, which no figure changes
@@ -76,7 +75,7 @@ pub record AnotherY : Type 0 where
   pub first : version_of (moved_job One) ≡ One
   pub second : version_of (moved_job Two) ≡ Two
   pub same : SameRecords (moved_job One) (moved_job Two) 7
-  pub lower : factor_of (version_of (moved_job One)) (chosen_in (moved_job One) 0) ≡ Known 9499
-  pub before : factor_of (version_of (moved_job Two)) (chosen_in (moved_job Two) 0) ≡ Known 10000
+  pub lower : factor_of (version_of (moved_job One)) (chosen_in (moved_job One) 0) ≡ Some 9499
+  pub before : factor_of (version_of (moved_job Two)) (chosen_in (moved_job Two) 0) ≡ Some 10000
   pub kept : Kept
   pub voided : Voided

@@ -1,10 +1,8 @@
 -- Which certificates reach a run: those of the meter, the pitot tube and the nozzle that it names, and no other's.
-use Rattle.std.specs.Prelude.{ℕ, ◌≡◌, List}
+use Rattle.std.specs.Prelude.{Option, Some, ℕ, ◌≡◌, List}
 use Rattle.readings.specs.Ranges.{meter, pitot, nozzle}
 use Rattle.records.specs.declared.Identity.{Identity}
 use Rattle.records.specs.declared.Certificate.{Certificate}
-use Rattle.choosing.specs.declared.Lookup.{Lookup}
-use Rattle.choosing.specs.declared.Lookup.TheVariants.{Found}
 use Rattle.job.specs.Places.{run_of}
 use Rattle.reduction.specs.Reducing.{chosen_in}
 
@@ -16,8 +14,8 @@ pub record Named (k : ℕ) (id : Identity) (c : Certificate) : Type 0 where
   pub letter : c.identity.letter ≡ id.letter
 
 -- what is found, if anything, is
-abbrev pub Own : ℕ → Identity → Lookup → Type 0
-Own kind id found = (c : Certificate) → found ≡ Found c → Named kind id c
+abbrev pub Own : ℕ → Identity → Option Certificate → Type 0
+Own kind id found = (c : Certificate) → found ≡ Some c → Named kind id c
 
 -- every certificate chosen for run k of a file is of an instrument that the run names
 pub record OwnCertificates (s : List ℕ) (k : ℕ) : Type 0 where

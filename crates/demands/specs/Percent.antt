@@ -1,9 +1,8 @@
 -- Rules 15 and 16 in the words of docs/RULES.md, The findings: by the percent isokinetic before it is rounded.
-use Rattle.std.specs.Prelude.{ℕ, ◌*◌, ◌^◌, ◌<◌, ◌≡◌, ◌↔◌}
+use Rattle.std.specs.Prelude.{None, ℕ, ◌*◌, ◌^◌, ◌<◌, ◌≡◌, ◌↔◌}
 use Rattle.arith.specs.Rounding.{round_div}
 use Rattle.readings.specs.declared.headers.Version.{Version}
 use Rattle.records.specs.declared.Run.{Run}
-use Rattle.lines.specs.declared.Line.TheVariants.{Absent}
 use Rattle.lines.specs.Sheet.{always}
 use Rattle.choosing.specs.declared.Chosen.{Chosen}
 use Rattle.steps.specs.declared.Figure.{Figure}
@@ -38,6 +37,6 @@ pub record JudgedExactly (v : Version) (fig : Figure) (r : Run) (ch : Chosen) : 
 
 -- line 18 is absent: neither is broken
 pub record NotJudged (v : Version) (fig : Figure) (r : Run) (ch : Chosen) : Type 0 where
-  pub line18 : equation 18 v r ch ≡ record { line = Absent }
+  pub line18 : equation 18 v r ch ≡ record { line = None }
   pub fifteen : BreaksWhole v fig r ch 15 → ⊥
   pub sixteen : BreaksWhole v fig r ch 16 → ⊥

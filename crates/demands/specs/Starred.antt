@@ -11,7 +11,7 @@ use Rattle.records.specs.Worked.{worked_certificates, worked_run}
 use Rattle.heads.specs.Values.{certificate_of}
 use Rattle.job.specs.declared.Job.{Job}
 use Rattle.job.specs.Places.{run_of}
-use Rattle.job.specs.Reading.{read_job}
+use Rattle.job.specs.Reading.{ClearJob}
 use Rattle.job.specs.Worked.{worked_job, worked_read}
 use Rattle.output.specs.Bytes.{le}
 use Rattle.writing.specs.Bytes.{sheet_size, finding_size}
@@ -37,7 +37,7 @@ Stands (of_percent p) = IsokineticStands p
 Stands (of_weighing w) = WeighingStands w
 Stands (of_positions ps) = map (position 6) (1 ∷ 2 ∷ 3 ∷ 4 ∷ 5 ∷ 6 ∷ []) ≡ ps
 Stands (of_reading file job certificates run) =
-    (read_job file ≡ job) × (map (certificate_of file) (0 ∷ 1 ∷ 2 ∷ 3 ∷ []) ≡ certificates) × (run_of file 0 ≡ run)
+    ClearJob file job × (map (certificate_of file) (0 ∷ 1 ∷ 2 ∷ 3 ∷ []) ≡ certificates) × (run_of file 0 ≡ run)
 
 -- the worked job's file is read as its four certificates and its run, in either version
 abbrev pub worked_file : Version → StarredValue

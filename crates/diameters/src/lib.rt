@@ -16,37 +16,41 @@ pub struct Length {
 }
 
 // The stack's diameter: of a rectangle 2LW/(L+W).
+#[tactic(auto, unfolding(crate::specs::Diameters::diameter))]
 pub fn diameter(site: Site) -> Length
     ensures { IsLength (diameter site) result }
 {
     let first = site.first as u64;
     let second = site.second as u64;
     if site.shape == Shape::ROUND {
-        return Length {
+        Length {
             over: first,
             under: 1,
-        };
-    }
-    Length {
-        over: 2 * (first * second),
-        under: first + second,
+        }
+    } else {
+        Length {
+            over: 2 * (first * second),
+            under: first + second,
+        }
     }
 }
 
 // Half of it.
+#[tactic(auto, unfolding(crate::specs::Diameters::half_diameter))]
 pub fn half_diameter(site: Site) -> Length
     ensures { IsLength (half_diameter site) result }
 {
     let first = site.first as u64;
     let second = site.second as u64;
     if site.shape == Shape::ROUND {
-        return Length {
+        Length {
             over: first,
             under: 2,
-        };
-    }
-    Length {
-        over: first * second,
-        under: first + second,
+        }
+    } else {
+        Length {
+            over: first * second,
+            under: first + second,
+        }
     }
 }

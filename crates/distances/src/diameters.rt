@@ -6,7 +6,7 @@ ghost use Rattle.distances.specs.Promise.{AtMost};
 ghost use Rattle.distances.specs.Positions.{near_position, position};
 ghost use Rattle.distances.specs.Round.{round_fits, margin, kept, distance};
 
-use arith::{larger, nearest_root, round_div, smaller};
+use arith::{nearest_root, round_div};
 
 // A stack of 24 in, 0.1 in: the widest whose points may stand nearer to the wall.
 const NARROW: u64 = 240;
@@ -43,9 +43,9 @@ fn margin(diameter: u64, nozzle: u64) -> u64
     ensures { AtMost 1000 (margin diameter nozzle) result }
 {
     if diameter <= NARROW {
-        return larger(nozzle, NARROW_MARGIN);
+        return nozzle.max(NARROW_MARGIN);
     }
-    larger(nozzle, WIDE_MARGIN)
+    nozzle.max(WIDE_MARGIN)
 }
 
 // A distance that is nearer than the margin to a wall of a stack this wide is moved to the margin.
@@ -53,7 +53,7 @@ fn kept(margin: u64, width: u64, distance: u64) -> u64
     requires { 2 * margin ≤ width }
     ensures { result ≡ kept margin width distance }
 {
-    smaller(larger(distance, margin), width - margin)
+    distance.max(margin).min(width - margin)
 }
 
 // The distance of point i of n from the near wall, 0.001 in. The stack is 100 * diameter wide.

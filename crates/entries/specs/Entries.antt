@@ -1,7 +1,6 @@
 -- A certificate's first trouble (docs/RULES.md, Refusals): in itself, and then that it repeats an earlier one.
 use Rattle.std.specs.Prelude.{ℕ, zero, suc, Bool, false, not, ◌&&◌, ◌||◌, List, eqb}
-use Rattle.fields.specs.declared.trouble.Trouble.{Trouble}
-use Rattle.fields.specs.Trouble.{first, trouble_unless, repeated}
+use Rattle.fields.specs.Trouble.{Trouble, first, trouble_unless, repeated}
 use Rattle.records.specs.declared.Certificate.{Certificate}
 use Rattle.records.specs.Records.{same_identity}
 use Rattle.opening.specs.Opening.{version_of}

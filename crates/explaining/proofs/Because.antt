@@ -1,4 +1,5 @@
 -- A finding explained, put together; and that there is none.
+use Rattle.std.specs.Prelude.{Option, Some, None}
 use Prim.Native.Nat.{ℕ, ◌<◌}
 use mathlib.Core.Path.{◌≡◌, refl, sym, ◌∙◌, ap}
 use mathlib.Core.Bool.{Bool, true, false, cond}
@@ -16,6 +17,7 @@ use Rattle.dates.specs.Dates.{days_of}
 use Rattle.diameters.specs.Diameters.{is_round}
 use Rattle.steps.specs.declared.Figure.{Figure}
 use Rattle.conditions.specs.declared.Part.{Part}
+use Rattle.classes.specs.declared.Class.{Class}
 use Rattle.classes.specs.Classes.{class_of}
 use Rattle.rules.specs.declared.Beside.{Beside}
 use Rattle.rules.specs.Rules.{last_rule, table, ground_of}
@@ -31,8 +33,6 @@ use Rattle.job.proofs.ReadJobs.{count_of_certificates, start_of}
 use Rattle.reduction.specs.declared.Reduced.{Reduced}
 use Rattle.reduction.specs.Reducing.{ClearRun, chosen_in, judged_run}
 use Rattle.explaining.specs.declared.Explanation.{Explanation}
-use Rattle.explaining.specs.declared.Explained.{Explained}
-use Rattle.explaining.specs.declared.Explained.TheVariants.{NoFinding, Because}
 use Rattle.explaining.specs.Explaining.{ground_for, explanation_by, explanation, explained, explained_run}
 
 -- no rule has the number 0
@@ -71,18 +71,18 @@ module _ (fig : Figure) (s : List ℕ) (k rule place : ℕ) where
   abbrev ground : Ground
   ground = ground_for (version_of s) fig (run_of s k) (chosen_in s k) rule place
 
-  unbroken : broken ground ≡ false → NoFinding ≡ explained_run fig s k rule place
+  unbroken : broken ground ≡ false → None ≡ explained_run fig s k rule place
   unfolding explained_run explained chosen_in
   unbroken e = rw e
 
   -- a number that no rule has
-  pub beneath : rule < 1 → NoFinding ≡ explained_run fig s k rule place
+  pub beneath : rule < 1 → None ≡ explained_run fig s k rule place
   unfolding ground_for ground_at broken
   beneath h =
       let none : rule ≡ 0 = omega (arith, h) in
       unbroken (rw (none, either_silent _ _ (no_rule_zero _ _)))
 
-  pub beyond : last_rule < rule → NoFinding ≡ explained_run fig s k rule place
+  pub beyond : last_rule < rule → None ≡ explained_run fig s k rule place
   unfolding ground_for ground_at broken
   beyond h = unbroken (rw (either_silent _ _ (beyond_table _ _ rule h)))
 
@@ -92,11 +92,11 @@ module _ (fig : Figure) (s : List ℕ) (k rule place : ℕ) where
     kept = ap (λ (r : Reduced). r.basis) is
 
     -- nothing was kept, and the run does not have the finding
-    pub no_finding_lem : done.basis ≡ Silent → NoFinding ≡ explained_run fig s k rule place
+    pub no_finding_lem : done.basis ≡ Silent → None ≡ explained_run fig s k rule place
     no_finding_lem none = unbroken (kept_none ground (sym kept ∙ none))
 
     -- something was, and that is what explains it
-    pub has_finding : (done.basis ≡ Silent → ⊥) → {e : Explanation} → e ≡ explanation_by done.basis (version_of s) (certificate_of s) (certificate_count_of s) (run_of s k) rule place → ◌≡◌ {A = Explained} (Because e) (explained_run fig s k rule place)
+    pub has_finding : (done.basis ≡ Silent → ⊥) → {e : Explanation} → e ≡ explanation_by done.basis (version_of s) (certificate_of s) (certificate_count_of s) (run_of s k) rule place → ◌≡◌ {A = Option Explanation} (Some e) (explained_run fig s k rule place)
     unfolding explained_run explained explanation chosen_in
     has_finding some ee =
         let broke : broken ground ≡ true = kept_some ground (λ none. some (kept ∙ none)) in
@@ -108,6 +108,6 @@ unfolding run_at
 header_is {s} {j = j} {k = k} ok ev et eh = eh ∙ rw (ev, et, start_of s j ok.job k ok.inside)
 
 -- A finding explained by a ground, from what is read and chosen
-pub put_together : {s t : List ℕ} {v : Version} {j : Job} {k : ℕ} {h : RunHeader} {class : ℕ} {days : Days} (g : Ground) (rule place : ℕ) → ClearRun s j k → v ≡ version_of s → t ≡ drop (get_or j.starts k 0) s → h ≡ header v t → class ≡ class_of v rule → days ≡ days_of v (certificate_of s) j.certificates h rule → ◌≡◌ {A = Explanation} (record { finding = record { rule = rule; class = class; place = place }; round = is_round h.site; basis = g; days = days }) (explanation_by g (version_of s) (certificate_of s) (certificate_count_of s) (run_of s k) rule place)
+pub put_together : {s t : List ℕ} {v : Version} {j : Job} {k : ℕ} {h : RunHeader} {class : Class} {days : Days} (g : Ground) (rule place : ℕ) → ClearRun s j k → v ≡ version_of s → t ≡ drop (get_or j.starts k 0) s → h ≡ header v t → class ≡ class_of v rule → days ≡ days_of v (certificate_of s) j.certificates h rule → ◌≡◌ {A = Explanation} (record { finding = record { rule = rule; class = class; place = place }; round = is_round h.site; basis = g; days = days }) (explanation_by g (version_of s) (certificate_of s) (certificate_count_of s) (run_of s k) rule place)
 put_together {s} {j = j} g rule place ok ev et eh ec ed =
     rw (ed, ec, header_is ok ev et eh, ev, count_of_certificates s j ok.job)

@@ -1,6 +1,6 @@
 -- A finding explained (docs/RULES.md): what its rule goes by at its place, from the definitions that the list of findings comes from; and the
 -- certificate days that it uses.
-use Rattle.std.specs.Prelude.{ℕ, cond, List}
+use Rattle.std.specs.Prelude.{Option, Some, None, ℕ, cond, List}
 use Rattle.readings.specs.declared.headers.Version.{Version}
 use Rattle.records.specs.declared.Certificate.{Certificate}
 use Rattle.records.specs.declared.Run.{Run}
@@ -18,8 +18,6 @@ use Rattle.heads.specs.Values.{certificate_of}
 use Rattle.opening.specs.Opening.{version_of, certificate_count_of}
 use Rattle.job.specs.Places.{run_of}
 use Rattle.explaining.specs.declared.Explanation.{Explanation}
-use Rattle.explaining.specs.declared.Explained.{Explained}
-use Rattle.explaining.specs.declared.Explained.TheVariants.{NoFinding, Because}
 
 -- a run's ground of a rule at a place, with the certificates chosen for it
 unfoldable pub ground_for : Version → Figure → Run → Chosen → ℕ → ℕ → Ground
@@ -41,10 +39,10 @@ explanation v fig f n r rule place =
     explanation_by (ground_for v fig r (chosen_for f n r.header) rule place) v f n r rule place
 
 -- or that it does not have it: the rule is not broken there
-unfoldable pub explained : Version → Figure → (ℕ → Certificate) → ℕ → Run → ℕ → ℕ → Explained
+unfoldable pub explained : Version → Figure → (ℕ → Certificate) → ℕ → Run → ℕ → ℕ → Option Explanation
 explained v fig f n r rule place =
-    cond (broken (ground_for v fig r (chosen_for f n r.header) rule place)) (Because (explanation v fig f n r rule place)) NoFinding
+    cond (broken (ground_for v fig r (chosen_for f n r.header) rule place)) (Some (explanation v fig f n r rule place)) None
 
 -- Run k of a job, by that figure
-unfoldable pub explained_run : Figure → List ℕ → ℕ → ℕ → ℕ → Explained
+unfoldable pub explained_run : Figure → List ℕ → ℕ → ℕ → ℕ → Option Explanation
 explained_run fig s k rule place = explained (version_of s) fig (certificate_of s) (certificate_count_of s) (run_of s k) rule place

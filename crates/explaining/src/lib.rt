@@ -14,8 +14,10 @@ use dates::Days;
 use fields::numbers;
 use findings::{Finding, Sought};
 use grounds::Ground;
+use heads::certificate::Certificates;
 use heads::header::header;
 use job::Job;
+use opening::JobFile;
 use readings::runs::Shape;
 use reduction::reduce;
 use steps::Figure;
@@ -29,51 +31,52 @@ pub struct Explanation {
     pub days: Days,
 }
 
-// What comes of asking why a run has a finding.
-#[derive(Clone, Copy)]
-pub enum Explained {
-    // The run does not have it.
-    NoFinding,
-    Because(Explanation),
-}
-
 // Why run k of a job without trouble has the finding of that rule at that place, by the ground that its rule goes by there.
 fn explanation_by(basis: Ground, s: &[u8], job: Job, k: usize, rule: u8, place: u16) -> Explanation
     requires { ClearRun s.now job k }
     ensures { result ≡ explanation_by basis (version_of s.now) (certificate_of s.now) (certificate_count_of s.now) (run_of s.now k) rule place }
 {
-    let v = opening::version(s);
-    let starts = job.starts;
-    let header = header(numbers::tail(s, starts[k]), v);
-    let finding = Finding {
-        rule: rule,
-        class: classes::class(v, rule),
-        place: place,
+    let file = JobFile::of(s);
+    let header = header(numbers::tail(s, job.starts[k]), file.version);
+    let all = Certificates {
+        file,
+        count: job.certificates,
     };
     Explanation {
-        finding: finding,
+        finding: Finding {
+            rule,
+            class: classes::class_of(file.version, rule),
+            place,
+        },
         round: header.site.shape == Shape::ROUND,
         basis,
-        days: dates::days_of(s, v, job.certificates, header, rule),
+        days: dates::days_of(all, header, rule),
     }
 }
 
 // Why run k of a job without trouble, counted from 0 in file order, has the finding of that rule at that place, by a figure.
-pub fn explain_run(s: &[u8], job: Job, figure: Figure, k: usize, rule: u16, place: u16) -> Explained
+pub fn explain_run(
+    s: &[u8],
+    job: Job,
+    figure: Figure,
+    k: usize,
+    rule: u16,
+    place: u16,
+) -> Option<Explanation>
     requires { ClearRun s.now job k }
     ensures { result ≡ explained_run figure s.now k rule place }
 {
     if rule < 1 {
-        return Explained::NoFinding;
+        return None;
     }
     if rule > rules::LAST_RULE as u16 {
-        return Explained::NoFinding;
+        return None;
     }
     let number = rule as u8;
     let reduced = reduce(s, job, figure, k, Sought::Why(number, place));
     let ground = reduced.basis;
     if let Ground::Silent = ground {
-        return Explained::NoFinding;
+        return None;
     }
-    Explained::Because(explanation_by(ground, s, job, k, number, place))
+    Some(explanation_by(ground, s, job, k, number, place))
 }

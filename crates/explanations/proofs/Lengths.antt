@@ -2,19 +2,18 @@
 use Prim.Native.Nat.{ℕ, ◌*◌, ◌≤◌}
 use mathlib.Core.Path.{◌≡◌, refl}
 use mathlib.Core.Bool.{Bool, true, false}
-use mathlib.Core.List.{List, [], ◌∷◌, ◌++◌}
+use mathlib.Core.List.{List, [], ◌∷◌}
 use native.Mathlib.Omega.{arith}
 use lib.ListN.{length, length-append}
 use Rattle.readings.specs.Ranges.{meter, pitot, nozzle}
 use Rattle.grounds.specs.declared.Ground.{Ground}
 use Rattle.grounds.specs.declared.Ground.TheVariants.{Silent, NoCertificate, Compared, Either, Exactly, SignedBelow}
 use Rattle.grounds.specs.Showing.{Condition, Judged, conditions, broken_of, shown}
+use Rattle.dates.specs.declared.Side.TheVariants.{Before, After}
 use Rattle.dates.specs.declared.Sides.{Sides}
 use Rattle.dates.specs.declared.Days.{Days}
-use Rattle.dates.specs.Dates.{before, after}
 use Rattle.explaining.specs.declared.Explanation.{Explanation}
 use Rattle.forms.specs.declared.Form.{Form}
-use Rattle.forms.specs.Forms.{head_in, condition_in, day_in}
 use Rattle.forms.proofs.Lengths.{head_short, condition_short, day_short}
 use Rattle.explanations.specs.Written.{conditions_in, sides_in, days_in, written}
 
@@ -42,27 +41,22 @@ conditions_short : (form : Form) (rule : ℕ) (round : Bool) (cs : List Conditio
 unfolding conditions_in
 conditions_short form rule round [] = omega arith
 conditions_short form rule round (c ∷ cs) =
-    omega (arith, length-append (condition_in form rule round c) (conditions_in form rule round cs), condition_short form rule round c, conditions_short form rule round cs)
+    simp length-append (omega (arith, condition_short form rule round c, conditions_short form rule round cs))
 
 -- and so are the certificate days
 sides_short : (form : Form) (kind : ℕ) (s : Sides) → length (sides_in form kind s) ≤ 98
 unfolding sides_in
 sides_short form kind s =
-    omega (arith, length-append (day_in form kind before s.before) (day_in form kind after s.after), day_short form kind before s.before, day_short form kind after s.after)
+    simp length-append (omega (arith, day_short form kind Before s.before, day_short form kind After s.after))
 
 days_short : (form : Form) (d : Days) → length (days_in form d) ≤ 294
 unfolding days_in
 days_short form d =
-    let a = sides_in form meter d.meter in
-    let b = sides_in form pitot d.pitot in
-    let c = sides_in form nozzle d.nozzle in
-    omega (arith, length-append a b, length-append (a ++ b) c, sides_short form meter d.meter, sides_short form pitot d.pitot, sides_short form nozzle d.nozzle)
+    simp length-append (omega (arith, sides_short form meter d.meter, sides_short form pitot d.pitot, sides_short form nozzle d.nozzle))
 
 -- An explanation
 pub written_short : (form : Form) (e : Explanation) → length (written form e) ≤ 1024
 unfolding written shown
 written_short form e =
-    let head = head_in form e in
-    let told = conditions_in form e.finding.rule e.round (shown e.basis) in
     let few : length (shown e.basis) ≤ 2 = omega (arith, shown_few (conditions e.basis), at_most_two e.basis) in
-    omega (arith, length-append head told, length-append (head ++ told) (days_in form e.days), head_short form e, few, conditions_short form e.finding.rule e.round (shown e.basis), days_short form e.days)
+    simp length-append (omega (arith, head_short form e, few, conditions_short form e.finding.rule e.round (shown e.basis), days_short form e.days))

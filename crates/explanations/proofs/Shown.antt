@@ -3,6 +3,7 @@ use Prim.Native.Nat.{ℕ}
 use mathlib.Core.Path.{◌≡◌, refl}
 use mathlib.Core.Bool.{Bool, true, false}
 use mathlib.Core.List.{List, [], ◌∷◌, ◌++◌, append-nil}
+use mathlib.Core.Logic.{◌⊎◌, inl, inr}
 use lib.IntN.{ℤ}
 use lib.Signed.{lt_z}
 use Rattle.grounds.specs.declared.comparison.Comparison.{Comparison}
@@ -33,13 +34,10 @@ module _ (form : Form) (rule : ℕ) (round : Bool) where
   then_others x false js = refl
 
   -- by the ground: nothing
-  pub silent_text : {g : Ground} → g ≡ Silent → conditions_in form rule round (shown g) ≡ []
+  pub nothing_text : {g : Ground} → (g ≡ Silent) ⊎ (g ≡ NoCertificate) → conditions_in form rule round (shown g) ≡ []
   unfolding conditions_in shown conditions broken_of
-  silent_text e = rw e
-
-  pub no_certificate_text : {g : Ground} → g ≡ NoCertificate → conditions_in form rule round (shown g) ≡ []
-  unfolding conditions_in shown conditions broken_of
-  no_certificate_text e = rw e
+  nothing_text (inl e) = rw e
+  nothing_text (inr e) = rw e
 
   -- two numbers, once or twice
   pub compared_text : {g : Ground} {c : Comparison} → g ≡ Compared c → conditions_in form rule round (shown g) ≡ conditions_in form rule round (broken_of ((two_numbers 1 c broken_if holds c) ∷ []))
@@ -67,3 +65,9 @@ module _ (form : Form) (rule : ℕ) (round : Bool) where
   pub signed_kept : {g : Ground} {left right : ℤ} → g ≡ SignedBelow left right → lt_z left right ≡ false → conditions_in form rule round (shown g) ≡ []
   unfolding shown conditions
   signed_kept {left = left} {right} e h = rw (e, h) (kept_back (two_signed left right))
+
+-- the text of a ground, by its shape
+pub ruleset by_ground = (nothing_text, compared_text, exact_text, exact_kept, signed_text, signed_kept)
+
+-- the text of a condition, by whether it is broken
+pub ruleset by_breach = (kept_back, one_shown)

@@ -1,4 +1,5 @@
 -- The ranges of what certificates give: certificates in range give a factor, a coefficient and diameters in range.
+use Rattle.std.specs.Prelude.{Option, Some, None}
 use Prim.Native.Nat.{ℕ, ◌≤◌, min}
 use mathlib.Core.Path.{◌≡◌, refl}
 use mathlib.Core.Bool.{Bool, true, false, cond}
@@ -11,11 +12,8 @@ use Rattle.records.specs.declared.Certificate.{Certificate}
 use Rattle.records.specs.declared.Identity.{Identity}
 use Rattle.records.specs.declared.RunHeader.{RunHeader}
 use Rattle.records.specs.InRange.{NozzleOk, CertificateOk}
-use Rattle.values.specs.declared.Value.TheVariants.{Known}
 use Rattle.values.specs.Promise.{Between, DiametersOk}
 use Rattle.values.proofs.Promise.{missing_between, known_between}
-use Rattle.choosing.specs.declared.Lookup.{Lookup}
-use Rattle.choosing.specs.declared.Lookup.TheVariants.{Found, Nothing}
 use Rattle.choosing.specs.declared.Chosen.{Chosen}
 use Rattle.choosing.specs.Choosing.{chosen, chosen_for, Nearest}
 use Rattle.grounds.specs.Comparing.{holds}
@@ -30,11 +28,11 @@ Within least greatest v = (least ≤ v) × (v ≤ greatest)
 in_range : (least greatest v : ℕ) → within least greatest v ≡ true → Within least greatest v
 in_range least greatest v e = (within_least least greatest v e, within_greatest least greatest v e)
 
-between : {least greatest v : ℕ} → Within least greatest v → Between least greatest (Known v)
+between : {least greatest v : ℕ} → Within least greatest v → Between least greatest (Some v)
 between (low, high) = known_between low high
 
 -- What is found is in range, of the kind that was looked for
-found_ok : (after : Bool) (kind : ℕ) (identity : Identity) (day : ℕ) (f : ℕ → Certificate) (n : ℕ) → CertificatesOk f n → (c : Certificate) → chosen after kind identity day f n ≡ Found c → (c.kind ≡ kind) × CertificateOk c
+found_ok : (after : Bool) (kind : ℕ) (identity : Identity) (day : ℕ) (f : ℕ → Certificate) (n : ℕ) → CertificatesOk f n → (c : Certificate) → chosen after kind identity day f n ≡ Some c → (c.kind ≡ kind) × CertificateOk c
 found_ok after kind identity day f n ok c e =
     let best : Nearest after kind identity day f n c = chosen_found after kind identity day f n c e in
     (best.eligible.is.kind, rw best.there at (ok.each best.index best.inside))
@@ -63,10 +61,10 @@ unfolding factor
 factor_within One least greatest before after own other = lower_within least greatest before after own other
 factor_within Two least greatest before after own other = own
 
-factor_from_lem : (v : Version) (b a : Lookup) → ((c : Certificate) → b ≡ Found c → within least_factor greatest_factor c.first ≡ true) → ((c : Certificate) → a ≡ Found c → within least_factor greatest_factor c.first ≡ true) → Between least_factor greatest_factor (factor_from v b a)
-factor_from_lem v Nothing a hb ha = missing_between
-factor_from_lem v (Found b) Nothing hb ha = between (in_range _ _ _ (hb b refl))
-factor_from_lem v (Found b) (Found a) hb ha =
+factor_from_lem : (v : Version) (b a : Option Certificate) → ((c : Certificate) → b ≡ Some c → within least_factor greatest_factor c.first ≡ true) → ((c : Certificate) → a ≡ Some c → within least_factor greatest_factor c.first ≡ true) → Between least_factor greatest_factor (factor_from v b a)
+factor_from_lem v None a hb ha = missing_between
+factor_from_lem v (Some b) None hb ha = between (in_range _ _ _ (hb b refl))
+factor_from_lem v (Some b) (Some a) hb ha =
     between (factor_within v _ _ _ _ (in_range _ _ _ (hb b refl)) (in_range _ _ _ (ha a refl)))
 
 -- Y lies in the range of factors
@@ -74,27 +72,23 @@ pub factor_range : (v : Version) (ch : Chosen) → ChosenOk ch → Between least
 unfolding factor_of
 factor_range v ch ok = factor_from_lem v ch.before ch.after ok.before ok.after
 
-coefficient_from_lem : (least greatest : ℕ) (l : Lookup) → ((c : Certificate) → l ≡ Found c → within least greatest c.first ≡ true) → Between least greatest (coefficient_from l)
-coefficient_from_lem least greatest Nothing h = missing_between
-coefficient_from_lem least greatest (Found c) h = between (in_range _ _ _ (h c refl))
+coefficient_from_lem : (least greatest : ℕ) (l : Option Certificate) → ((c : Certificate) → l ≡ Some c → within least greatest c.first ≡ true) → Between least greatest (coefficient_from l)
+coefficient_from_lem least greatest None h = missing_between
+coefficient_from_lem least greatest (Some c) h = between (in_range _ _ _ (h c refl))
 
 -- Cp lies in the range of coefficients
 pub coefficient_range : (ch : Chosen) → ChosenOk ch → Between least_coefficient greatest_coefficient (coefficient_of ch)
 unfolding coefficient_of
 coefficient_range ch ok = coefficient_from_lem least_coefficient greatest_coefficient ch.pitot ok.pitot
 
-measured : (l : Lookup) → ((c : Certificate) → l ≡ Found c → NozzleOk c) → DiametersOk (diameters_from l)
-measured Nothing h = record { measured = λ x y z e. let w : ◌≡◌ {A = ℕ} 0 1 = cc in absurd (omega arith) }
-measured (Found c) h =
+measured : (l : Option Certificate) → ((c : Certificate) → l ≡ Some c → NozzleOk c) → DiametersOk (diameters_from l)
+measured None h = record { measured = λ n e. cc }
+measured (Some c) h =
     record {
-      measured = λ x y z e.
-          let first : c.first ≡ x = cc in
-          let second : c.second ≡ y = cc in
-          let third : c.third ≡ z = cc in (
-            rw first at (in_range _ _ _ (h c refl).first),
-            rw second at (in_range _ _ _ (h c refl).second),
-            rw third at (in_range _ _ _ (h c refl).third),
-          );
+      measured = λ n e.
+          let same : record { first = c.first; second = c.second; third = c.third } ≡ n = cc in
+          let ok = h c refl in
+          rw (← same) (in_range _ _ _ ok.first, in_range _ _ _ ok.second, in_range _ _ _ ok.third);
     }
 
 -- The diameters lie in the range of diameters

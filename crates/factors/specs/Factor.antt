@@ -1,13 +1,9 @@
 -- What the chosen certificates give the lines; of the factor Y, docs/RULES.md, Choosing certificates.
-use Rattle.std.specs.Prelude.{ℕ, ◌*◌, min, cond}
+use Rattle.std.specs.Prelude.{ℕ, ◌*◌, min, cond, Option, Some, None}
+use Rattle.records.specs.declared.Certificate.{Certificate}
 use Rattle.readings.specs.declared.headers.Version.{Version}
 use Rattle.readings.specs.declared.headers.Version.TheVariants.{One, Two}
-use Rattle.values.specs.declared.Value.{Value}
-use Rattle.values.specs.declared.Value.TheVariants.{Known, Missing}
 use Rattle.values.specs.declared.Diameters.{Diameters}
-use Rattle.values.specs.declared.Diameters.TheVariants.{Measured, Unknown}
-use Rattle.choosing.specs.declared.Lookup.{Lookup}
-use Rattle.choosing.specs.declared.Lookup.TheVariants.{Found, Nothing}
 use Rattle.choosing.specs.declared.Chosen.{Chosen}
 use Rattle.grounds.specs.declared.comparison.Way.TheVariants.{Above}
 use Rattle.grounds.specs.declared.comparison.Comparison.{Comparison}
@@ -27,27 +23,29 @@ factor One before after = lower_if_moved before after
 factor Two before after = before
 
 -- Y from what was found
-abbrev pub factor_from : Version → Lookup → Lookup → Value
-factor_from v Nothing after = Missing
-factor_from v (Found b) Nothing = Known b.first
-factor_from v (Found b) (Found a) = Known (factor v b.first a.first)
+abbrev pub factor_from : Version → Option Certificate → Option Certificate → Option ℕ
+factor_from v None after = None
+factor_from v (Some b) None = Some b.first
+factor_from v (Some b) (Some a) = Some (factor v b.first a.first)
 
 -- The factor Y: missing without a before certificate
-unfoldable pub factor_of : Version → Chosen → Value
+unfoldable pub factor_of : Version → Chosen → Option ℕ
 factor_of v ch = factor_from v ch.before ch.after
 
-abbrev pub coefficient_from : Lookup → Value
-coefficient_from Nothing = Missing
-coefficient_from (Found c) = Known c.first
+-- Cp from what was found
+abbrev pub coefficient_from : Option Certificate → Option ℕ
+coefficient_from None = None
+coefficient_from (Some c) = Some c.first
 
 -- The coefficient Cp: missing without a pitot certificate
-unfoldable pub coefficient_of : Chosen → Value
+unfoldable pub coefficient_of : Chosen → Option ℕ
 coefficient_of ch = coefficient_from ch.pitot
 
-abbrev pub diameters_from : Lookup → Diameters
-diameters_from Nothing = Unknown
-diameters_from (Found c) = Measured c.first c.second c.third
+-- the diameters from what was found
+abbrev pub diameters_from : Option Certificate → Option Diameters
+diameters_from None = None
+diameters_from (Some c) = Some (record { first = c.first; second = c.second; third = c.third })
 
 -- The nozzle's three diameters: unknown without a nozzle certificate
-unfoldable pub diameters_of : Chosen → Diameters
+unfoldable pub diameters_of : Chosen → Option Diameters
 diameters_of ch = diameters_from ch.nozzle

@@ -5,36 +5,40 @@
 ghost use Rattle.std.specs.Prelude.{◌≡◌};
 ghost use Rattle.factors.specs.Factor.{factor_moved, lower_if_moved, factor, factor_of, coefficient_of, diameters_of};
 
-use choosing::{Chosen, Lookup};
-use grounds::comparison::{Comparison, Way, apart};
+use choosing::Chosen;
+use grounds::comparison::{Comparison, Way};
 use readings::headers::Version;
-use values::{Diameters, Value};
+use values::Diameters;
 
 // 5 percent of the before factor: a difference is more where as many times it is more than the factor.
 const PARTS: u64 = 20;
 
 // Whether the after factor differs from the before factor by more than 5 percent of the before factor.
+#[tactic(auto, unfolding(crate::specs::Factor::factor_moved, grounds::specs::Comparing::apart))]
 pub fn factor_moved(before: u16, after: u16) -> Comparison
     ensures { result ≡ factor_moved before after }
 {
     Comparison {
-        left: PARTS * apart(before as u64, after as u64),
+        left: PARTS * (before as u64).abs_diff(after as u64),
         way: Way::Above,
         right: before as u64,
     }
 }
 
 // The lower of the two where the factor moved, otherwise the before factor.
+#[tactic(auto, unfolding(crate::specs::Factor::lower_if_moved))]
 fn lower_if_moved(before: u16, after: u16) -> u16
     ensures { result ≡ lower_if_moved before after }
 {
-    if !factor_moved(before, after).holds() {
-        return before;
+    if factor_moved(before, after).holds() {
+        before.min(after)
+    } else {
+        before
     }
-    if after < before { after } else { before }
 }
 
 // Y from a before factor and an after factor, by the job's version: in version 2 always the before factor.
+#[tactic(auto, unfolding(crate::specs::Factor::factor))]
 pub fn factor(v: Version, before: u16, after: u16) -> u16
     ensures { result ≡ factor v before after }
 {
@@ -45,38 +49,41 @@ pub fn factor(v: Version, before: u16, after: u16) -> u16
 }
 
 // The factor Y: missing without a before certificate, and the before factor without an after one.
-pub fn factor_of(v: Version, chosen: Chosen) -> Value
+#[tactic(auto, unfolding(crate::specs::Factor::factor_of))]
+pub fn factor_of(v: Version, chosen: Chosen) -> Option<u64>
     ensures { result ≡ factor_of v chosen }
 {
-    let before = chosen.before;
-    let Lookup::Found(b) = before else {
-        return Value::Missing;
+    let Some(b) = chosen.before else {
+        return None;
     };
-    let after = chosen.after;
-    let Lookup::Found(a) = after else {
-        return Value::Known(b.first as u64);
+    let Some(a) = chosen.after else {
+        return Some(b.first as u64);
     };
-    Value::Known(factor(v, b.first, a.first) as u64)
+    Some(factor(v, b.first, a.first) as u64)
 }
 
 // Cp of the pitot tube's certificate.
-pub fn coefficient_of(chosen: Chosen) -> Value
+#[tactic(auto, unfolding(crate::specs::Factor::coefficient_of))]
+pub fn coefficient_of(chosen: Chosen) -> Option<u64>
     ensures { result ≡ coefficient_of chosen }
 {
-    let pitot = chosen.pitot;
-    let Lookup::Found(p) = pitot else {
-        return Value::Missing;
+    let Some(p) = chosen.pitot else {
+        return None;
     };
-    Value::Known(p.first as u64)
+    Some(p.first as u64)
 }
 
 // The three diameters of the nozzle's certificate.
-pub fn diameters_of(chosen: Chosen) -> Diameters
+#[tactic(auto, unfolding(crate::specs::Factor::diameters_of))]
+pub fn diameters_of(chosen: Chosen) -> Option<Diameters>
     ensures { result ≡ diameters_of chosen }
 {
-    let nozzle = chosen.nozzle;
-    let Lookup::Found(n) = nozzle else {
-        return Diameters::Unknown;
+    let Some(n) = chosen.nozzle else {
+        return None;
     };
-    Diameters::Measured(n.first as u64, n.second as u64, n.third as u64)
+    Some(Diameters {
+        first: n.first as u64,
+        second: n.second as u64,
+        third: n.third as u64,
+    })
 }

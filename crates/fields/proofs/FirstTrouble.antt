@@ -1,6 +1,6 @@
 -- The laws of the first trouble met: of a record's rows, and of records in a row.
 use Prim.Native.Nat.{ℕ, zero, suc, ◌+◌, ◌≤◌, ◌<◌}
-use mathlib.Core.Path.{◌≡◌, refl, sym, ◌∙◌, ap, ap₂}
+use mathlib.Core.Path.{◌≡◌, refl, sym, ◌∙◌, ap}
 use mathlib.Core.Bool.{Bool, true, false, false≢true, ◌&&◌}
 use mathlib.Core.Logic.{⊎_elim}
 use mathlib.Core.List.{List, [], ◌∷◌, ◌++◌}
@@ -9,9 +9,7 @@ use native.Mathlib.Numerals.{add-one}
 use native.Mathlib.Omega.{arith}
 use borrow.Author.Tests.{leb-true}
 use lib.Dec.{leb}
-use Rattle.fields.specs.declared.trouble.Trouble.{Trouble}
-use Rattle.fields.specs.declared.trouble.Trouble.TheVariants.{Clear, At}
-use Rattle.fields.specs.Trouble.{first, trouble_unless, unless, Row, moved_along, AllGood, checks, trouble_place, from, up_to}
+use Rattle.fields.specs.Trouble.{Trouble, Clear, At, first, trouble_unless, unless, Row, moved_along, AllGood, checks, trouble_place, from, up_to}
 
 -- Clear is no trouble at any place
 pub clear_not_at : {X : Type 0} {t : Trouble} {n p : ℕ} → t ≡ Clear → t ≡ At n p → X
@@ -26,14 +24,6 @@ first_clear u e = rw e
 pub first_at : {t : Trouble} (u : Trouble) {n p : ℕ} → t ≡ At n p → first t u ≡ At n p
 unfolding first
 first_at u e = rw e
-
--- An early answer of the code: r is the trouble t, and no later one counts ..
-pub first_met : {r t : Trouble} (u : Trouble) {n p : ℕ} → r ≡ t → r ≡ At n p → r ≡ first t u
-first_met u e told = told ∙ sym (first_at u (sym e ∙ told))
-
--- .. or t was clear, and r is what comes later
-pub first_passed : {q t r u : Trouble} → q ≡ t → q ≡ Clear → r ≡ u → r ≡ first t u
-first_passed {u = u} e told h = h ∙ sym (first_clear u (sym e ∙ told))
 
 -- nothing after the first trouble: the same trouble
 pub clear_last : (t : Trouble) → first t Clear ≡ t
@@ -64,14 +54,6 @@ unless_clear false n p e = clear_not_at e refl
 
 -- A record's rows
 
--- one check of the code is one row of the table
-pub step : {r t u : Trouble} {a b : Bool} (n p : ℕ) → r ≡ unless t a n p → t ≡ u → a ≡ b → r ≡ unless u b n p
-step n p e f g = rw (← f, ← g) e
-
--- and a call of the code is several
-pub steps : (rs : List Row) {r t u : Trouble} → r ≡ checks t rs → t ≡ u → r ≡ checks u rs
-steps rs e f = e ∙ ap (λ (t : Trouble). checks t rs) f
-
 -- the trouble met before the rows comes first
 pub checks_first : (t : Trouble) (rs : List Row) → checks t rs ≡ first t (checks Clear rs)
 unfolding checks first
@@ -99,23 +81,8 @@ checks_moved m t (r ∷ rs) =
     along Clear false = refl
 
 -- rows and then others moved along: the trouble of the first, or else that of the others, moved along
-checks_then : (rs : List Row) (m : ℕ) (qs : List Row) → checks Clear (rs ++ moved_along m qs) ≡ first (checks Clear rs) (from m (checks Clear qs))
+pub checks_then : (rs : List Row) (m : ℕ) (qs : List Row) → checks Clear (rs ++ moved_along m qs) ≡ first (checks Clear rs) (from m (checks Clear qs))
 checks_then rs m qs = checks_both Clear rs (moved_along m qs) ∙ checks_first _ (moved_along m qs) ∙ ap (first (checks Clear rs)) (checks_moved m Clear qs)
-
--- so the code answers the trouble r of the first early ..
-pub then_met : (rs : List Row) (m : ℕ) (qs : List Row) {r : Trouble} {n p : ℕ} → r ≡ checks Clear rs → r ≡ At n p → r ≡ checks Clear (rs ++ moved_along m qs)
-then_met rs m qs e told = first_met _ e told ∙ sym (checks_then rs m qs)
-
--- .. or q was clear, and it answers that of the others
-pub then_passed :
-    (rs : List Row) (m : ℕ) (qs : List Row) {q own r : Trouble} {l : ℕ}
-    → q ≡ checks Clear rs
-    → q ≡ Clear
-    → own ≡ checks Clear qs
-    → l ≡ m
-    → r ≡ from l own
-    → r ≡ checks Clear (rs ++ moved_along m qs)
-then_passed rs m qs e told others along f = first_passed e told (f ∙ ap₂ from along others) ∙ sym (checks_then rs m qs)
 
 pub checks_clear : (rs : List Row) → checks Clear rs ≡ Clear → AllGood rs
 unfolding checks first
@@ -234,3 +201,7 @@ stops f i (suc m) e g h less =
 -- none is left
 pub ends : (f : ℕ → Trouble) (i m : ℕ) → up_to f i ≡ Clear → i ≤ m → m ≤ i → Clear ≡ up_to f m
 ends f i m e low high = sym (ap (up_to f) (le_antisymm high low) ∙ e)
+
+-- Rows and then others: the trouble of the first, or else that of the others
+pub checks_parts : (rs qs : List Row) → checks Clear (rs ++ qs) ≡ first (checks Clear rs) (checks Clear qs)
+checks_parts rs qs = checks_both Clear rs qs ∙ checks_first (checks Clear rs) qs

@@ -2,4 +2,5 @@
 pub mod FirstTrouble
 pub mod Tails
 pub mod RecordTrouble
+pub mod Refusals
 pub mod SignedFields

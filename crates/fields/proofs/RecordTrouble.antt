@@ -8,9 +8,7 @@ use native.Mathlib.Omega.{arith}
 use borrow.Author.Tests.{leb-true, le-leb, lt-leb}
 use lib.Dec.{leb}
 use lib.ListN.{length, drop, length-drop}
-use Rattle.fields.specs.declared.trouble.Trouble.{Trouble}
-use Rattle.fields.specs.declared.trouble.Trouble.TheVariants.{Clear, At}
-use Rattle.fields.specs.Trouble.{first, incomplete, Row, AllGood, checks, from, trouble_place, record_trouble, up_to}
+use Rattle.fields.specs.Trouble.{Trouble, Clear, At, first, incomplete, Row, AllGood, checks, from, trouble_place, record_trouble, up_to}
 use Rattle.fields.proofs.FirstTrouble.{told, each, clear_left, clear_right, unless_clear, from_clear, checks_clear, checks_reach, first_told, unless_told, checks_told, from_told, each_clear}
 
 -- t is what is left of s from `at` on

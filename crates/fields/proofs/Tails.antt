@@ -1,16 +1,12 @@
 -- What is left of a file from a place on.
-use Prim.Native.Nat.{ℕ, ◌+◌, ◌*◌, ◌-◌, ◌≤◌}
+use Prim.Native.Nat.{ℕ, ◌+◌, ◌*◌, ◌≤◌}
 use mathlib.Core.Path.{◌≡◌, ◌∙◌, ap, ap₂}
 use mathlib.Core.List.{List}
-use native.Mathlib.Nat.{le_of_eq, add-zero}
+use native.Mathlib.Nat.{add-zero}
 use native.Mathlib.Omega.{arith}
-use lib.ListN.{length, get_or, drop, take, length-drop}
-use lib.Seq.{take_all, get_or-drop}
+use lib.ListN.{length, get_or, drop, length-drop}
+use lib.Seq.{get_or-drop}
 use Rattle.fields.specs.Numbers.{u16_at}
-
--- all of it
-pub take_rest : (s : List ℕ) (at : ℕ) → take (length s - at) (drop at s) ≡ drop at s
-take_rest s at = take_all _ _ (le_of_eq (length-drop at s))
 
 -- as much is left from a place on as the file has behind it
 pub enough : (s : List ℕ) (at size : ℕ) {t : List ℕ} → t ≡ drop at s → at + size ≤ length s → size ≤ length t

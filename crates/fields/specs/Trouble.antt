@@ -1,7 +1,10 @@
 -- The first trouble met: that of a record, row by row, and that of records in a row.
 use Rattle.std.specs.Prelude.{ℕ, zero, suc, ◌+◌, ◌≡◌, Bool, true, cond, List, [], ◌∷◌, leb, length, drop}
-use Rattle.fields.specs.declared.trouble.Trouble.{Trouble}
-use Rattle.fields.specs.declared.trouble.Trouble.TheVariants.{Clear, At}
+
+-- no trouble, or a refusal's number and the place that it is about
+pub data Trouble : Type 0 where
+  Clear : Trouble
+  At : (number place : ℕ) → Trouble
 
 -- the earlier of two, unless it is clear
 unfoldable pub first : Trouble → Trouble → Trouble

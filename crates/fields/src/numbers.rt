@@ -7,11 +7,7 @@ ghost use Rattle.fields.specs.Numbers.{byte_at, u16_at, u32_at, i16_at};
 pub fn tail(s: &[u8], at: usize) -> &[u8]
     ensures { result.now ≡ drop at s.now }
 {
-    if at <= s.len() {
-        return &s[at..];
-    }
-    let end = s.len();
-    &s[end..]
+    &s[at.min(s.len())..]
 }
 
 pub fn byte(s: &[u8], at: usize) -> u8
@@ -25,29 +21,20 @@ pub fn u16_at(s: &[u8], at: usize) -> u16
     requires { at + 2 ≤ length s.now }
     ensures { result ≡ u16_at s.now at }
 {
-    let low = byte(s, at) as u16;
-    let high = byte(s, at + 1) as u16;
-    low + 256 * high
+    u16::from_le_bytes([s[at], s[at + 1]])
 }
 
 pub fn u32_at(s: &[u8], at: usize) -> u32
     requires { at + 4 ≤ length s.now }
     ensures { result ≡ u32_at s.now at }
 {
-    let low = u16_at(s, at) as u32;
-    let high = u16_at(s, at + 2) as u32;
-    low + 65_536 * high
+    u32::from_le_bytes([s[at], s[at + 1], s[at + 2], s[at + 3]])
 }
 
-// A signed number in two's complement: from 32,768 on, the bits stand for a number below zero.
+// A signed number in two's complement.
 pub fn i16_at(s: &[u8], at: usize) -> i16
     requires { at + 2 ≤ length s.now }
     ensures { result ≡ i16_at s.now at }
 {
-    let bits = u16_at(s, at);
-    if bits < 32_768 {
-        bits as i16
-    } else {
-        !((65_535 - bits) as i16)
-    }
+    u16_at(s, at).cast_signed()
 }

@@ -1,62 +1,73 @@
-// The first trouble met in a file: the refusal's number and the place it is about.
+// The first trouble met in a file: why it is refused, and the place that this is about.
 
 ghost use Rattle.std.specs.Prelude.{◌≡◌, ◌+◌, ◌^◌, ◌<◌};
-ghost use Rattle.fields.specs.Trouble.{unless, from, trouble_place};
+ghost use Rattle.fields.specs.Trouble.{Clear, count, field, checks, trouble_place, from};
+ghost use Rattle.fields.specs.Refusals.{as_row, as_rows, trouble_of};
 
+use refusals::Reason;
+
+// Why a file is refused, and the place that this is about.
 #[derive(Clone, Copy)]
-pub enum Trouble {
-    Clear,
-    At(u32, usize),
+pub struct BadFile {
+    pub why: Reason,
+    pub place: usize,
 }
 
-impl Trouble {
-    // The file ends before the header or a record is complete.
-    pub const INCOMPLETE: u32 = 1;
+// What is found of a record that starts at a place of the file: a refusal's place is counted from the start of the file, and no more
+// from the record's own.
+pub fn from(start: usize, found: Result<(), BadFile>) -> Result<(), BadFile>
+    requires { start + trouble_place (trouble_of found) < 2 ^ 64 }
+    ensures { trouble_of result ≡ from start (trouble_of found) }
+{
+    found.map_err(|e| BadFile {
+        why: e.why,
+        place: start + e.place,
+    })
+}
 
-    pub const MARK: u32 = 2;
+// A row of a record's table: whether all is well, and else why the file is refused, and the field's place in the record.
+#[derive(Clone, Copy)]
+pub struct Row {
+    pub ok: bool,
+    pub why: Reason,
+    pub place: usize,
+}
 
-    pub const VERSION: u32 = 3;
-
-    pub const COUNT: u32 = 4;
-
-    // A field other than a count is out of range.
-    pub const FIELD: u32 = 5;
-
-    // A certificate that stands already, or a run number not above the one before.
-    pub const REPEATED: u32 = 6;
-
-    // The seconds of a run's points are too many, or those of its segments differ from them.
-    pub const SECONDS: u32 = 7;
-
-    pub const LEFT_OVER: u32 = 8;
-
-    // Whatever is wrong with a figure.
-    pub const FIGURE: u32 = 14;
-
-    // The trouble met so far, or else this one, unless all is well.
-    pub fn unless(self, ok: bool, number: u32, place: usize) -> Trouble
-        ensures { result ≡ unless self ok number place }
+impl Row {
+    // The row of a count.
+    pub fn count(place: usize, ok: bool) -> Row
+        ensures { as_row result ≡ count place ok }
     {
-        match self {
-            Trouble::At(n, p) => Trouble::At(n, p),
-            Trouble::Clear => {
-                if ok {
-                    Trouble::Clear
-                } else {
-                    Trouble::At(number, place)
-                }
-            }
+        Row {
+            ok,
+            why: Reason::Count,
+            place,
         }
     }
 
-    // A record's trouble, its place counted from the start of the file and no more from the record's own start.
-    pub fn from(self, start: usize) -> Trouble
-        requires { start + trouble_place self < 2 ^ 64 }
-        ensures { result ≡ from start self }
+    // The row of a field other than a count.
+    pub fn field(place: usize, ok: bool) -> Row
+        ensures { as_row result ≡ field place ok }
     {
-        match self {
-            Trouble::At(n, p) => Trouble::At(n, start + p),
-            Trouble::Clear => Trouble::Clear,
+        Row {
+            ok,
+            why: Reason::Field,
+            place,
         }
     }
+}
+
+// The rows from the first to the last: the first that is not good is the answer.
+pub fn check(rows: &[Row]) -> Result<(), BadFile>
+    ensures { trouble_of result ≡ checks Clear (as_rows rows.now) }
+{
+    for row in rows {
+        if !row.ok {
+            return Err(BadFile {
+                why: row.why,
+                place: row.place,
+            });
+        }
+    }
+    Ok(())
 }

@@ -7,19 +7,18 @@ use native.Mathlib.Omega.{arith}
 use borrow.Author.Tests.{leb-true, leb-false, le-leb}
 use lib.Dec.{leb, eqb}
 use lib.ListN.{length}
-use Rattle.fields.specs.declared.trouble.Trouble.{Trouble}
-use Rattle.fields.specs.declared.trouble.Trouble.TheVariants.{Clear, At}
 use Rattle.fields.specs.Numbers.{byte_at, u16_at}
-use Rattle.fields.specs.Trouble.{trouble_unless, bad_figure, checks}
+use Rattle.std.specs.Prelude.{Result, Ok, Err, IsErrAnd}
+use Rattle.refusals.specs.Reasons.{reason_number}
+use Rattle.fields.specs.declared.trouble.BadFile.{BadFile}
+use Rattle.fields.specs.Trouble.{Trouble, Clear, At, trouble_unless, bad_figure, checks}
 use Rattle.fields.proofs.FirstTrouble.{told, clear_left, clear_right, checks_clear, first_told, later_told, unless_told, up_told}
 use Rattle.readings.specs.Ranges.{figure_version, step_count, greatest_step_count}
 use Rattle.readings.proofs.Ranges.{both_right, within_greatest}
 use Rattle.steps.specs.declared.Step.{Step}
 use Rattle.steps.specs.declared.Figure.{Figure}
-use Rattle.steps.specs.Steps.{no_figure}
-use Rattle.figures.specs.declared.Supplied.{Supplied}
 use Rattle.figures.proofs.Parts.{steps_in_a_row, list_parts, figure_parts}
-use Rattle.figures.specs.Figures.{field_rows, figure_marked, opening_rows, step_place, distance_good, round_good, rectangular_good, step_rows, list_rows, list_end, steps_at, last_at, next_at, longest_figure, figure_trouble, supplied_by, read_figure}
+use Rattle.figures.specs.Figures.{Supplied, field_rows, figure_marked, opening_rows, step_place, distance_good, round_good, rectangular_good, step_rows, list_rows, list_end, steps_at, last_at, next_at, longest_figure, figure_trouble, supplied_by, read_figure, told_figure}
 
 -- No list holds more steps than there is room for
 
@@ -106,12 +105,13 @@ fourteen_fits s {n = n} {p} e met =
     let known : (eqb n bad_figure && leb p longest_figure) ≡ true = subst (λ t. told (fourteen_by longest_figure) t ≡ true) here (figure_told s) in
     omega (arith, leb-true p longest_figure (both_right (eqb n bad_figure) _ known))
 
--- The figure that is read, put together
-
-pub is_refused : (s : List ℕ) {t : Trouble} {fig : Figure} {n p : ℕ} → t ≡ figure_trouble s → t ≡ At n p → fig ≡ no_figure → ◌≡◌ {A = Supplied} (record { trouble = t; figure = fig }) (read_figure s)
+-- What is read, put together: a trouble that a `?` hands on ..
+pub is_refused : (s : List ℕ) (q : Result Figure BadFile) (e : BadFile) → IsErrAnd q (λ y. y ≡ e) → At (reason_number e.why) e.place ≡ figure_trouble s → told_figure q ≡ read_figure s
 unfolding read_figure
-is_refused s e told none = rw (← e, told, none)
+is_refused s (Ok f) e same told = absurd same
+is_refused s (Err y) e same told = rw (same, ← told)
 
-pub is_read : (s : List ℕ) {t : Trouble} {last next : List Step} {at : ℕ} → t ≡ figure_trouble s → t ≡ Clear → last ≡ steps_at s last_at → at ≡ next_at s → next ≡ steps_at s at → ◌≡◌ {A = Supplied} (record { trouble = Clear; figure = record { last = last; next = next } }) (read_figure s)
+-- .. or both lists
+pub is_read : (s : List ℕ) {last next : List Step} {at : ℕ} → Clear ≡ figure_trouble s → last ≡ steps_at s last_at → at ≡ next_at s → next ≡ steps_at s at → ◌≡◌ {A = Supplied} (record { trouble = Clear; figure = record { last = last; next = next } }) (read_figure s)
 unfolding read_figure
-is_read s e told first there second = rw (← e, told, first, second, there)
+is_read s clear first there second = rw (← clear, first, second, there)

@@ -9,10 +9,8 @@ use borrow.Author.Tests.{leb-true, le-leb, lt-leb}
 use lib.Dec.{leb}
 use lib.ListN.{length, take}
 use lib.Seq.{take_all, get_or-take, length-take-le}
-use Rattle.fields.specs.declared.trouble.Trouble.{Trouble}
-use Rattle.fields.specs.declared.trouble.Trouble.TheVariants.{Clear, At}
 use Rattle.fields.specs.Numbers.{byte_at, u16_at}
-use Rattle.fields.specs.Trouble.{first, checks, up_to}
+use Rattle.fields.specs.Trouble.{Trouble, Clear, At, first, checks, up_to}
 use Rattle.readings.specs.Ranges.{figure_version, step_count, greatest_step_count, step_points}
 use Rattle.fields.proofs.FirstTrouble.{clear_right, unless_clear, checks_clear}
 use Rattle.readings.proofs.Ranges.{within_greatest}

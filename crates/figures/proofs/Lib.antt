@@ -1,5 +1,4 @@
 -- The laws of the figure file, which the layers above cite.
-pub mod Fields
 pub mod Parts
 pub mod Clear
 pub mod Front

@@ -1,15 +1,15 @@
 -- The figure file (docs/RULES.md, The figure file): its fields in order of place, the first trouble met, and the figure that it holds.
-use Rattle.std.specs.Prelude.{ℕ, zero, suc, ◌+◌, ◌*◌, Bool, ◌&&◌, List, [], ◌∷◌, ◌++◌, leb, eqb, length}
-use Rattle.fields.specs.declared.trouble.Trouble.{Trouble}
-use Rattle.fields.specs.declared.trouble.Trouble.TheVariants.{Clear, At}
+use Rattle.std.specs.Prelude.{Result, Ok, Err, ℕ, zero, suc, ◌+◌, ◌*◌, Bool, ◌&&◌, List, [], ◌∷◌, ◌++◌, leb, eqb, length}
 use Rattle.fields.specs.Numbers.{byte_at, u16_at}
-use Rattle.fields.specs.Trouble.{bad_figure, Row, checks}
+use Rattle.refusals.specs.Reasons.{reason_number}
+use Rattle.fields.specs.declared.trouble.BadFile.{BadFile}
+use Rattle.fields.specs.Trouble.{Trouble, Clear, At, bad_figure, Row, checks}
 use Rattle.arrays.specs.Arrays.{padded}
 use Rattle.readings.specs.Ranges.{figure_version, step_count, greatest_step_count, step_points, greatest_round_points, greatest_rectangular_points}
 use Rattle.steps.specs.declared.Step.{Step}
+use Rattle.steps.specs.declared.Figure.{Figure}
 use Rattle.steps.specs.Steps.{no_step, no_figure}
 use Rattle.figures.specs.declared.lists.Limits.{Limits}
-use Rattle.figures.specs.declared.Supplied.{Supplied}
 
 -- the two rows of a field of so many bytes at a place: the file does not end before the field does, or 14 at the file's length; and the
 -- field is good, or 14 at the field
@@ -105,6 +105,11 @@ figure_rows s =
 unfoldable pub figure_trouble : List ℕ → Trouble
 figure_trouble s = checks Clear (figure_rows s)
 
+-- what a file supplies: the first trouble met in it, and its figure, which is none in trouble
+pub record Supplied : Type 0 where
+  pub trouble : Trouble
+  pub figure : Figure
+
 -- no file is supplied: no figure, and no trouble
 abbrev pub none_supplied : Supplied
 none_supplied = record { trouble = Clear; figure = no_figure }
@@ -117,3 +122,9 @@ supplied_by (At number place) s = record { trouble = At number place; figure = n
 -- The figure in a file
 unfoldable pub read_figure : List ℕ → Supplied
 read_figure s = supplied_by (figure_trouble s) s
+
+-- what the code answers of a file, as what the file supplies; it tells the answer, since no two reasons have one number (reason_apart
+-- of refusals)
+abbrev pub told_figure : Result Figure BadFile → Supplied
+told_figure (Ok f) = record { trouble = Clear; figure = f }
+told_figure (Err e) = record { trouble = At (reason_number e.why) e.place; figure = no_figure }

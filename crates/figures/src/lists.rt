@@ -2,14 +2,15 @@
 
 ghost use Rattle.std.specs.Prelude.{◌≡◌, ◌+◌, ◌≤◌};
 ghost use Rattle.fields.specs.Numbers.{byte_at};
-ghost use Rattle.fields.specs.declared.trouble.Trouble.TheVariants.{Clear};
-ghost use Rattle.fields.specs.Trouble.{checks};
+ghost use Rattle.fields.specs.Trouble.{Clear, checks};
+ghost use Rattle.fields.specs.Refusals.{trouble_of};
 ghost use Rattle.readings.specs.Ranges.{greatest_step_count};
 ghost use Rattle.figures.specs.Figures.{step_place, step_at, limits_at, step_rows, steps_rows, list_rows, list_end, steps_at};
 
 use crate::bytes::{byte, met, number};
-use fields::trouble::Trouble;
+use fields::trouble::BadFile;
 use readings::figures::{StepCount, StepPoints};
+use readings::range::Reading;
 use steps::{PLACES, Step};
 
 const STEP_SIZE: usize = 4;
@@ -62,17 +63,16 @@ fn limits_of(s: &[u8], at: usize, i: usize) -> Limits
     }
 }
 
-fn step_trouble(s: &[u8], at: usize, i: usize) -> Trouble
+fn step_trouble(s: &[u8], at: usize, i: usize) -> Result<(), BadFile>
     requires { (at ≤ 10000) × (i ≤ 255) }
-    ensures { result ≡ checks Clear (step_rows s.now at i) }
+    ensures { trouble_of result ≡ checks Clear (step_rows s.now at i) }
 {
     let p = place(at, i);
     let step = step(s, at, i);
     let limits = limits_of(s, at, i);
-    let t = met(Trouble::Clear, s, p, 2, limits.least <= step.least as u32);
-    let t = met(t, s, p + 2, 1, StepPoints::check(limits.round, step.round));
+    met(s, p, 2, limits.least <= step.least as u32)?;
+    met(s, p + 2, 1, StepPoints::check(limits.round, step.round))?;
     met(
-        t,
         s,
         p + 3,
         1,
@@ -81,31 +81,23 @@ fn step_trouble(s: &[u8], at: usize, i: usize) -> Trouble
 }
 
 // The first trouble met in the first n steps of the list at a place.
-fn steps_trouble(s: &[u8], at: usize, n: usize) -> Trouble
+fn steps_trouble(s: &[u8], at: usize, n: usize) -> Result<(), BadFile>
     requires { (at ≤ 10000) × (n ≤ 255) }
-    ensures { result ≡ checks Clear (steps_rows s.now at n) }
+    ensures { trouble_of result ≡ checks Clear (steps_rows s.now at n) }
 {
-    let mut i = 0;
-    while i < n {
-        let t = step_trouble(s, at, i);
-        let Trouble::Clear = t else {
-            return t;
-        };
-        i += 1;
+    for i in 0..n {
+        step_trouble(s, at, i)?;
     }
-    Trouble::Clear
+    Ok(())
 }
 
 // The first trouble met in the list at a place.
-pub fn trouble(s: &[u8], at: usize) -> Trouble
+pub fn trouble(s: &[u8], at: usize) -> Result<(), BadFile>
     requires { at ≤ 10000 }
-    ensures { result ≡ checks Clear (list_rows s.now at) }
+    ensures { trouble_of result ≡ checks Clear (list_rows s.now at) }
 {
     let count = byte(s, at);
-    let t = met(Trouble::Clear, s, at, 1, StepCount::check(count));
-    let Trouble::Clear = t else {
-        return t;
-    };
+    met(s, at, 1, StepCount::check(count))?;
     steps_trouble(s, at, count as usize)
 }
 
@@ -129,10 +121,8 @@ pub fn steps(s: &[u8], at: usize) -> [Step; PLACES]
         round: 0,
         rectangular: 0,
     }; PLACES];
-    let mut i = 0;
-    while i < count {
+    for i in 0..count {
         all[i] = step(s, at, i);
-        i += 1;
     }
     all
 }

@@ -1,4 +1,7 @@
 -- A run has at most 98 findings: of 3 and 6, of 4 and 5, and of 12, 14, 15 and 16 at most one can be broken, and with eight weighings not both 18 and 19.
+use Rattle.std.specs.Prelude.{Option, Some, None}
+use Rattle.arith.specs.declared.Division.{Division}
+use Rattle.records.specs.declared.Certificate.{Certificate}
 use Prim.Native.Nat.{ℕ, zero, suc, ◌+◌, ◌≤◌, ◌<◌}
 use mathlib.Core.Path.{◌≡◌, refl, ◌∙◌, ap}
 use mathlib.Core.Bool.{Bool, true, false, cond}
@@ -16,13 +19,7 @@ use Rattle.records.specs.declared.Weighing.{Weighing}
 use Rattle.records.specs.declared.Run.{Run}
 use Rattle.records.specs.Records.{no_weighing, sum_to}
 use Rattle.records.specs.InRange.{RunOk}
-use Rattle.values.specs.declared.Ratio.{Ratio}
-use Rattle.values.specs.declared.Ratio.TheVariants.{Exact, Unworked}
-use Rattle.values.specs.declared.Value.{Value}
-use Rattle.values.specs.declared.Value.TheVariants.{Known, Missing}
 use Rattle.lines.specs.declared.Lines.{Lines}
-use Rattle.choosing.specs.declared.Lookup.{Lookup}
-use Rattle.choosing.specs.declared.Lookup.TheVariants.{Found, Nothing}
 use Rattle.choosing.specs.declared.Chosen.{Chosen}
 use Rattle.steps.specs.declared.Figure.{Figure}
 use Rattle.grounds.specs.declared.comparison.Way.TheVariants.{Below, Above, Same}
@@ -83,37 +80,37 @@ module _ (v : Version) (is_broken : ℕ → ℕ → Bool) (places : ℕ → ℕ)
       ∙ ap (λ (n : ℕ). n + length (rule_findings v (is_broken (k + 1)) (k + 1) (places (k + 1)))) (many_all k)
 
 -- 3 and 6: without a nozzle certificate there is no diameter to compare
-nozzle_once : (n : Lookup) → bit (broken (missing n)) + bit (broken (uneven n)) ≤ 1
+nozzle_once : (n : Option Certificate) → bit (broken (missing n)) + bit (broken (uneven n)) ≤ 1
 unfolding broken missing uneven
-nozzle_once Nothing = omega arith
-nozzle_once (Found c) = omega (arith, bit_le (broken (uneven (Found c))))
+nozzle_once None = omega arith
+nozzle_once (Some c) = omega (arith, bit_le (broken (uneven (Some c))))
 
 -- 4 and 5: without an after certificate the factor did not move
-factor_once : (b a : Lookup) → bit (broken (missing a)) + bit (broken (moved b a)) ≤ 1
+factor_once : (b a : Option Certificate) → bit (broken (missing a)) + bit (broken (moved b a)) ≤ 1
 unfolding broken missing moved
-factor_once Nothing Nothing = omega arith
-factor_once (Found b) Nothing = omega arith
-factor_once b (Found a) = omega (arith, bit_le (broken (moved b (Found a))))
+factor_once None None = omega arith
+factor_once (Some b) None = omega arith
+factor_once b (Some a) = omega (arith, bit_le (broken (moved b (Some a))))
 
 -- 12 to 16: each speaks of a line that the next needs
-zero_once : (v : Value) (rest : ℕ) → rest ≤ 1 → (v ≡ Known 0 → rest ≡ 0) → bit (broken (line_against v Same 0)) + rest ≤ 1
+zero_once : (v : Option ℕ) (rest : ℕ) → rest ≤ 1 → (v ≡ Some 0 → rest ≡ 0) → bit (broken (line_against v Same 0)) + rest ≤ 1
 unfolding broken line_against holds
-zero_once Missing rest le none = omega arith
-zero_once (Known n) rest le none = go (eqb n 0) (λ e. none (ap Known (eqb-true n 0 e)))
+zero_once None rest le none = omega arith
+zero_once (Some n) rest le none = go (eqb n 0) (λ e. none (ap Some (eqb-true n 0 e)))
   where
     go : (t : Bool) → (t ≡ true → rest ≡ 0) → bit t + rest ≤ 1
     go true h = omega (arith, h refl)
     go false h = omega arith
 
-zero_missing : (v : Value) (rest : ℕ) → v ≡ Missing → rest ≡ 0 → bit (broken (line_against v Same 0)) + rest ≡ 0
+zero_missing : (v : Option ℕ) (rest : ℕ) → v ≡ None → rest ≡ 0 → bit (broken (line_against v Same 0)) + rest ≡ 0
 unfolding broken line_against
 zero_missing v rest e none = rw e (omega arith)
 
 -- the percent isokinetic is not below 9,000 and above 11,000
-percent_once : (v : Ratio) → bit (broken (ratio_against v Below least_isokinetic)) + bit (broken (ratio_against v Above greatest_isokinetic)) ≤ 1
+percent_once : (v : Option Division) → bit (broken (ratio_against v Below least_isokinetic)) + bit (broken (ratio_against v Above greatest_isokinetic)) ≤ 1
 unfolding broken ratio_against holds deciding
-percent_once Unworked = omega arith
-percent_once (Exact n) = go (dec_le n.quotient least_isokinetic)
+percent_once None = omega arith
+percent_once (Some n) = go (dec_le n.quotient least_isokinetic)
   where
     q : ℕ
     q = n.quotient
@@ -134,7 +131,7 @@ percent_once (Exact n) = go (dec_le n.quotient least_isokinetic)
     go (yes low) = rw (not_sixteen low) (omega (arith, bit_le fifteen))
     go (no high) = rw (not_fifteen (lt_of_not-le high)) (omega (arith, bit_le sixteen))
 
-percent_missing : (v : Ratio) → v ≡ Unworked → bit (broken (ratio_against v Below least_isokinetic)) + bit (broken (ratio_against v Above greatest_isokinetic)) ≡ 0
+percent_missing : (v : Option Division) → v ≡ None → bit (broken (ratio_against v Below least_isokinetic)) + bit (broken (ratio_against v Above greatest_isokinetic)) ≡ 0
 unfolding broken ratio_against
 percent_missing v e = rw e (omega arith)
 
@@ -189,7 +186,7 @@ module _ (v : Version) (fig : Figure) (r : Run) (ch : Chosen) (l : Lines) (w : W
       let no-volume-drawn : l.metering.corrected ≡ 0 = cc in
       after_velocity (no_moisture r l w (no_volume r l w no-volume-drawn)))
     where
-      after_velocity : l.stack.velocity ≡ Missing → bit (broken (line_against l.stack.velocity Same 0)) + (bit (broken (ratio_against l.sampling.isokinetic Below least_isokinetic)) + bit (broken (ratio_against l.sampling.isokinetic Above greatest_isokinetic))) ≡ 0
+      after_velocity : l.stack.velocity ≡ None → bit (broken (line_against l.stack.velocity Same 0)) + (bit (broken (ratio_against l.sampling.isokinetic Below least_isokinetic)) + bit (broken (ratio_against l.sampling.isokinetic Above greatest_isokinetic))) ≡ 0
       after_velocity e = zero_missing _ _ e (percent_missing _ (no_velocity r l w e))
 
   -- how many findings rule number `rule` has

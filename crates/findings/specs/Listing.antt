@@ -1,5 +1,5 @@
 -- The list of a run's findings (docs/RULES.md, The findings): every rule at each of its places, in order, kept where it is broken.
-use Rattle.std.specs.Prelude.{ℕ, zero, suc, ◌+◌, ◌≤◌, ◌<◌, ◌≡◌, Bool, true, cond, not, ◌&&◌, List, [], ◌∷◌, ◌++◌, eqb, length, get_or}
+use Rattle.std.specs.Prelude.{ℕ, zero, suc, ◌+◌, ◌≤◌, ◌<◌, ◌≡◌, Bool, true, cond, not, ◌&&◌, List, [], ◌∷◌, ◌++◌, eqb, length, get_or, Option}
 use Rattle.readings.specs.declared.headers.Version.{Version}
 use Rattle.readings.specs.Ranges.{filter_kind, rinse_kind}
 use Rattle.arrays.specs.Arrays.{filled_to}
@@ -8,7 +8,6 @@ use Rattle.records.specs.declared.Run.{Run}
 use Rattle.records.specs.Records.{no_weighing, point_of, segment_of, weighing_of, sum_to}
 use Rattle.records.specs.InRange.{RunOk}
 use Rattle.values.specs.declared.Diameters.{Diameters}
-use Rattle.values.specs.declared.Value.{Value}
 use Rattle.lines.specs.declared.Lines.{Lines}
 use Rattle.lines.specs.Sheet.{lines}
 use Rattle.choosing.specs.declared.Chosen.{Chosen}
@@ -19,7 +18,8 @@ use Rattle.rules.specs.declared.Beside.{Beside}
 use Rattle.grounds.specs.Grounds.{broken}
 use Rattle.steps.specs.declared.Figure.{Figure}
 use Rattle.site.specs.Site.{minimum_points}
-use Rattle.classes.specs.Classes.{places_of, place_at, fault, class_of}
+use Rattle.classes.specs.declared.Class.TheVariants.{Fault}
+use Rattle.classes.specs.Classes.{places_of, place_at, is_fault, class_of}
 use Rattle.rules.specs.Rules.{last_rule, ground_of}
 use Rattle.findings.specs.declared.Finding.{Finding}
 use Rattle.findings.specs.declared.Findings.{Findings}
@@ -77,33 +77,34 @@ findings v fig r ch l = findings_to v (broken_at fig r ch l) (places_of r.header
 -- no finding is a fault
 unfoldable pub accepted : List Finding → Bool
 accepted [] = true
-accepted (f ∷ fs) = not (eqb f.class fault) && accepted fs
+accepted (f ∷ fs) = not (is_fault f.class) && accepted fs
 
 -- the most findings that a run can have
 abbrev pub most_findings : ℕ
 most_findings = 98
 
--- what stands behind the last finding
+-- what stands behind the last finding: an entry of no rule
 abbrev pub no_finding : Finding
-no_finding = record { rule = 0; class = 0; place = 0 }
+no_finding = record { rule = 0; class = Fault; place = 0 }
 
--- a list of findings as it is handed over: how many, and zeros behind them
+-- a list of findings as it is handed over: how many, and entries of no rule behind them
 unfoldable pub listed : List Finding → Findings
 listed fs = record { count = length fs; list = filled_to most_findings no_finding fs }
 
--- the lines of a run with its chosen certificates, in a job of that version, and the findings that those lines give by that figure
+-- the lines of a run with its chosen certificates, in a job of that version
 unfoldable pub lines_for : Version → Run → Chosen → Lines
 lines_for v r ch = lines r (factor_of v ch) (coefficient_of ch) (diameters_of ch)
 
+-- the findings that those lines give by that figure
 unfoldable pub findings_for : Version → Figure → Run → Chosen → List Finding
 findings_for v fig r ch = findings v fig r ch (lines_for v r ch)
 
 -- a run in range, with lines of its own, whatever certificates gave the values that they are worked with
 pub record Worked (r : Run) (l : Lines) : Type 0 where
   pub ok : RunOk r
-  pub y : Value
-  pub cp : Value
-  pub nozzle : Diameters
+  pub y : Option ℕ
+  pub cp : Option ℕ
+  pub nozzle : Option Diameters
   pub is : l ≡ lines r y cp nozzle
 
 -- What the list is promised to be, in the words of docs/RULES.md

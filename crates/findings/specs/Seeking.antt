@@ -34,11 +34,12 @@ ground_at fig r ch l rule place =
 abbrev pub if_broken : Ground → Ground
 if_broken g = cond (broken g) g Silent
 
--- the rules that are looked at: how many stand before them, and which is the last
+-- how many rules stand before those that are looked at
 abbrev pub before_of : Sought → ℕ
 before_of All = 0
 before_of (Why rule place) = rule - 1
 
+-- and which is the last of them
 abbrev pub last_of : Sought → ℕ
 last_of All = last_rule
 last_of (Why rule place) = rule

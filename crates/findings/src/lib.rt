@@ -5,13 +5,13 @@
 
 pub mod weighings;
 
-ghost use Rattle.std.specs.Prelude.{◌≡◌, ◌≤◌, take};
+ghost use Rattle.std.specs.Prelude.{◌≡◌, ◌≤◌};
 ghost use Rattle.readings.specs.Ranges.{greatest_weighing_count};
-ghost use Rattle.findings.specs.Listing.{beside_of, finding_at, most_findings, accepted, Worked};
+ghost use Rattle.findings.specs.Listing.{beside_of, finding_at, accepted, Worked};
 ghost use Rattle.findings.specs.Seeking.{before_of, last_of, Seekable, place_of, walked};
 
-use arith::less;
 use choosing::Chosen;
+use classes::Class;
 use conditions::Part;
 use grounds::Ground;
 use lines::Lines;
@@ -27,14 +27,14 @@ use weighings::of_kind;
 #[derive(Clone, Copy)]
 pub struct Finding {
     pub rule: u8,
-    pub class: u8,
+    pub class: Class,
     pub place: u16,
 }
 
 // The most findings that a run can have.
 pub const MOST_FINDINGS: usize = 98;
 
-// A run's findings in order, and behind them nothing but zeros.
+// A run's findings in order, and behind them entries of no rule.
 #[derive(Clone, Copy)]
 pub struct Findings {
     pub count: usize,
@@ -58,7 +58,7 @@ impl Sought {
     {
         match self {
             Sought::All => 0,
-            Sought::Why(rule, _place) => less(rule as u64, 1) as u8,
+            Sought::Why(rule, _) => rule.saturating_sub(1),
         }
     }
 
@@ -68,7 +68,7 @@ impl Sought {
     {
         match self {
             Sought::All => rules::LAST_RULE,
-            Sought::Why(rule, _place) => rule,
+            Sought::Why(rule, _) => rule,
         }
     }
 
@@ -78,7 +78,7 @@ impl Sought {
     {
         match self {
             Sought::All => NOWHERE,
-            Sought::Why(_rule, place) => place,
+            Sought::Why(_, place) => place,
         }
     }
 }
@@ -91,32 +91,33 @@ pub struct Walked {
 }
 
 // What the rules may see of a run beside the part that each looks at.
+#[tactic(auto, using(crate::proofs::Counted::kind_taken), unfolding(crate::specs::Listing::beside_of))]
 fn beside_of(figure: Figure, run: Run, chosen: Chosen, lines: Lines) -> Beside
     requires { run.header.counts.weighings ≤ greatest_weighing_count }
     ensures { result ≡ beside_of figure run chosen lines }
 {
-    let header = run.header;
-    let site = header.site;
-    let counts = header.counts;
-    let weighings = run.weighings;
+    let site = run.header.site;
+    let counts = run.header.counts;
+    let weighings = &run.weighings[..counts.weighings as usize];
     Beside {
-        chosen: chosen,
-        lines: lines,
-        site: site,
-        counts: counts,
-        filters: of_kind(WeighingKind::FILTER, weighings, counts.weighings),
-        rinses: of_kind(WeighingKind::RINSE, weighings, counts.weighings),
+        chosen,
+        lines,
+        site,
+        counts,
+        filters: of_kind(WeighingKind::FILTER, weighings),
+        rinses: of_kind(WeighingKind::RINSE, weighings),
         least: minimum_points(figure, site),
     }
 }
 
 // The finding of a rule at one of its places, counted from 0.
+#[tactic(auto, unfolding(crate::specs::Listing::finding_at))]
 fn finding_at(v: Version, rule: u8, i: u8) -> Finding
     ensures { result ≡ finding_at v rule i }
 {
     Finding {
-        rule: rule,
-        class: classes::class(v, rule),
+        rule,
+        class: classes::class_of(v, rule),
         place: classes::place(rule, i),
     }
 }
@@ -140,23 +141,21 @@ pub fn find(
     let segments = run.segments;
     let weighings = run.weighings;
     let beside = beside_of(figure, run, chosen, lines);
+    let before = sought.before();
     let last = sought.last();
     let place = sought.place();
     let mut found = Findings {
         count: 0,
         list: [Finding {
             rule: 0,
-            class: 0,
+            class: Class::Fault,
             place: 0,
         }; MOST_FINDINGS],
     };
     let mut count: usize = 0;
-    let mut done: u8 = sought.before();
-    while done < last {
+    for done in before..last {
         let rule = done + 1;
-        let places = classes::places(header.counts, rule);
-        let mut i: u8 = 0;
-        while i < places {
+        for i in 0..classes::places(header.counts, rule) {
             let part = match rule {
                 10 => Part::OnePoint(points[i as usize]),
                 11 => Part::OneSegment(segments[i as usize]),
@@ -176,9 +175,7 @@ pub fn find(
                 found.list[count] = finding;
                 count += 1;
             }
-            i += 1;
         }
-        done = rule;
     }
     found.count = count;
     Walked {
@@ -188,19 +185,14 @@ pub fn find(
 }
 
 // Whether no finding is a fault.
-pub fn accepted(found: Findings) -> bool
-    requires { found.count ≤ most_findings }
-    ensures { result ≡ accepted (take found.count found.list) }
+#[tactic(auto, using(crate::proofs::Accepting::fault_void, crate::proofs::Accepting::notes_accepted))]
+pub fn accepted(findings: &[Finding]) -> bool
+    ensures { result ≡ accepted findings.now }
 {
-    let list = found.list;
-    let count = found.count;
-    let mut i: usize = 0;
-    while i < count {
-        let f = list[i];
-        if f.class == classes::FAULT {
+    for f in findings {
+        if f.class == Class::Fault {
             return false;
         }
-        i += 1;
     }
     true
 }

@@ -17,13 +17,10 @@ impl GridPoints {
     pub fn next(n: u64) -> u64
         ensures { result ≡ next_grid n }
     {
-        let mut i = 0;
-        while i < 9 {
-            let grid = GRIDS[i];
-            if n <= grid {
-                return grid;
+        for grid in &GRIDS {
+            if n <= *grid {
+                return *grid;
             }
-            i += 1;
         }
         GRIDS[8]
     }

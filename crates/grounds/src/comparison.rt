@@ -1,7 +1,7 @@
 // Comparisons of whole numbers: what a rule sets against what, and which way it is broken.
 
 ghost use Rattle.std.specs.Prelude.{◌≡◌};
-ghost use Rattle.grounds.specs.Comparing.{holds, deciding, apart};
+ghost use Rattle.grounds.specs.Comparing.{holds, deciding};
 
 // Which way a comparison goes.
 #[derive(Clone, Copy)]
@@ -22,11 +22,11 @@ pub struct Comparison {
 
 impl Comparison {
     // Whether the left number stands to the right one as the comparison says.
+    #[tactic(auto, unfolding(crate::specs::Comparing::holds))]
     pub fn holds(self) -> bool
         ensures { result ≡ holds self }
     {
-        let way = self.way;
-        match way {
+        match self.way {
             Way::Below => self.left < self.right,
             Way::Above => self.right < self.left,
             Way::Same => self.left == self.right,
@@ -46,28 +46,23 @@ pub struct ExactComparison {
 
 impl ExactComparison {
     // What decides: the quotient, and the remainder only where the quotient equals the limit.
+    #[tactic(auto, unfolding(crate::specs::Comparing::deciding))]
     pub fn deciding(self) -> Comparison
         ensures { result ≡ deciding self }
     {
         let way = self.way;
         if self.quotient == self.limit {
-            return Comparison {
+            Comparison {
                 left: self.remainder,
-                way: way,
+                way,
                 right: 0,
-            };
-        }
-        Comparison {
-            left: self.quotient,
-            way: way,
-            right: self.limit,
+            }
+        } else {
+            Comparison {
+                left: self.quotient,
+                way,
+                right: self.limit,
+            }
         }
     }
-}
-
-// How far apart two numbers are.
-pub fn apart(a: u64, b: u64) -> u64
-    ensures { result ≡ apart a b }
-{
-    if a < b { b - a } else { a - b }
 }

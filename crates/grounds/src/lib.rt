@@ -5,7 +5,7 @@
 
 pub mod comparison;
 
-ghost use Rattle.std.specs.Prelude.{◌≡◌, cond, length};
+ghost use Rattle.std.specs.Prelude.{◌≡◌, length};
 ghost use Rattle.grounds.specs.Grounds.{broken};
 ghost use Rattle.grounds.specs.Showing.{shown};
 
@@ -28,6 +28,7 @@ pub enum Ground {
 }
 
 impl Ground {
+    #[tactic(auto, unfolding(crate::specs::Grounds::broken))]
     pub fn broken(self) -> bool
         ensures { result ≡ broken self }
     {
@@ -35,34 +36,23 @@ impl Ground {
             Ground::Silent => false,
             Ground::NoCertificate => true,
             Ground::Compared(c) => c.holds(),
-            Ground::Either(a, b) => {
-                if a.holds() {
-                    return true;
-                }
-                b.holds()
-            }
+            Ground::Either(a, b) => a.holds() || b.holds(),
             Ground::Exactly(c) => c.deciding().holds(),
             Ground::SignedBelow(left, right) => left < right,
         }
     }
 
     // How many of its conditions are broken.
+    #[tactic(auto, using(crate::proofs::Showing::one_most, crate::proofs::Showing::shown_of_one, crate::proofs::Showing::shown_of_two), unfolding(crate::specs::Showing::shown, crate::specs::Showing::conditions, crate::specs::Showing::broken_of))]
     pub fn shown(self) -> u8
         ensures { result ≡ length (shown self) }
     {
         match self {
-            Ground::Silent => 0,
-            Ground::NoCertificate => 0,
-            Ground::Compared(c) => one_if(c.holds()),
-            Ground::Either(a, b) => one_if(a.holds()) + one_if(b.holds()),
-            Ground::Exactly(c) => one_if(c.deciding().holds()),
-            Ground::SignedBelow(left, right) => one_if(left < right),
+            Ground::Silent | Ground::NoCertificate => 0,
+            Ground::Compared(c) => u8::from(c.holds()),
+            Ground::Either(a, b) => u8::from(a.holds()) + u8::from(b.holds()),
+            Ground::Exactly(c) => u8::from(c.deciding().holds()),
+            Ground::SignedBelow(left, right) => u8::from(left < right),
         }
     }
-}
-
-fn one_if(holds: bool) -> u8
-    ensures { result ≡ cond holds 1 0 }
-{
-    if holds { 1 } else { 0 }
 }

@@ -5,8 +5,7 @@ use mathlib.Core.List.{List}
 use borrow.Author.Tests.{lt-ltb, le-ltb}
 use lib.ListN.{length}
 use Rattle.reduction.specs.declared.Reduced.{Reduced}
-use Rattle.output.specs.declared.Answer.{Answer}
-use Rattle.output.specs.declared.Answer.TheVariants.{Done, Refused}
+use Rattle.output.specs.Answers.{Answer, Done, Refused}
 use Rattle.output.specs.Splice.{spliced}
 use Rattle.writing.specs.Bytes.{sheet_size, sheet_bytes, finding_size, findings_bytes}
 use Rattle.handing.specs.Handing.{Outcome, refused, handed, success, answer_of, lines_after, findings_after, Came}

@@ -1,9 +1,7 @@
 -- What comes of handing a reduced run over: decided by the lengths of the lent outputs, before a byte is written.
 use Rattle.std.specs.Prelude.{ℕ, ◌+◌, ◌*◌, ◌≡◌, Bool, cond, ◌||◌, List, ltb, length}
 use Rattle.reduction.specs.declared.Reduced.{Reduced}
-use Rattle.output.specs.declared.Answer.{Answer}
-use Rattle.output.specs.declared.Answer.TheVariants.{Done, Refused}
-use Rattle.output.specs.Answers.{short_output}
+use Rattle.output.specs.Answers.{Answer, Done, Refused, short_output}
 use Rattle.output.specs.Splice.{spliced}
 use Rattle.writing.specs.Bytes.{sheet_size, sheet_bytes, finding_size, findings_bytes}
 

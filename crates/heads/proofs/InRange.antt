@@ -5,7 +5,7 @@ use mathlib.Core.Bool.{true}
 use mathlib.Core.List.{List}
 use lib.ListN.{drop}
 use Rattle.opening.specs.Opening.{version_of}
-use Rattle.fields.specs.declared.trouble.Trouble.TheVariants.{Clear}
+use Rattle.fields.specs.Trouble.{Clear}
 use Rattle.fields.proofs.RecordTrouble.{good_at}
 use Rattle.records.specs.InRange.{CertificateOk, HeaderOk}
 use Rattle.heads.specs.Values.{certificate_size, run_header_size, spare_byte, certificate_at, header_at}

@@ -1,17 +1,19 @@
 // A certificate, 16 bytes, in version 2 17.
 
 ghost use Rattle.std.specs.Prelude.{◌≡◌, ◌+◌, ◌^◌, ◌<◌, ◌≤◌, length};
-ghost use Rattle.fields.specs.declared.trouble.Trouble.TheVariants.{Clear};
-ghost use Rattle.fields.specs.Trouble.{checks};
-ghost use Rattle.opening.specs.Opening.{version_of};
+ghost use Rattle.fields.specs.Trouble.{Clear, checks};
+ghost use Rattle.fields.specs.Refusals.{trouble_of};
 ghost use Rattle.heads.specs.Values.{certificate_size, certificate, certificate_place, certificate_of};
 ghost use Rattle.heads.specs.Rows.{good_first, good_later, value_rows, certificate_rows, certificate_trouble};
 
 use fields::numbers;
-use fields::trouble::Trouble;
+use fields::trouble::{self, BadFile, Row};
+use opening::JobFile;
 use readings::certificates::{CertificateKind, Coefficient, Factor, NozzleDiameter, Unused};
 use readings::headers::Version;
+use readings::range::Reading;
 use records::Certificate;
+use refusals::Reason;
 
 // Its bytes without the letter.
 const SIZE: usize = 16;
@@ -39,25 +41,42 @@ pub fn place(v: Version, k: usize) -> usize
     opening::SIZE + SIZE * k + opening::letters(v, k)
 }
 
-// Certificate k of a file of that version.
-pub fn nth(s: &[u8], v: Version, k: usize) -> Certificate
-    requires { (v ≡ version_of s.now) × (certificate_place v k + certificate_size v ≤ length s.now) }
-    ensures { result ≡ certificate_of s.now k }
+// Certificate k of a file.
+pub fn nth(f: JobFile<'_>, k: usize) -> Certificate
+    requires { certificate_place f.version k + certificate_size f.version ≤ length f.bytes.now }
+    ensures { result ≡ certificate_of f.entry.bytes.now k }
 {
-    certificate(&s[place(v, k)..], v)
+    certificate(&f.bytes[place(f.version, k)..], f.version)
+}
+
+// So many certificates of a job's file, from the first on, all of which lie within it.
+#[derive(Clone, Copy)]
+pub struct Certificates<'a> {
+    pub file: JobFile<'a>,
+    pub count: usize,
+    pub ghost inside: { certificate_place file.version count ≤ length file.bytes.now },
+}
+
+impl Certificates<'_> {
+    // Certificate k of them.
+    #[tactic(auto, using(crate::proofs::Places::ends_before))]
+    pub fn nth(self, k: usize) -> Certificate
+        requires { k < self.count }
+        ensures { result ≡ certificate_of self.entry.file.bytes.now k }
+    {
+        nth(self.file, k)
+    }
 }
 
 // Whether the first value is in range, which goes by the kind.
 fn good_first(kind: u8, value: u16) -> bool
     ensures { result ≡ good_first kind value }
 {
-    if kind == CertificateKind::METER {
-        return Factor::check(value);
+    match kind {
+        CertificateKind::METER => Factor::check(value),
+        CertificateKind::PITOT => Coefficient::check(value),
+        _ => NozzleDiameter::check(value),
     }
-    if kind == CertificateKind::PITOT {
-        return Coefficient::check(value);
-    }
-    NozzleDiameter::check(value)
 }
 
 // Whether the second or third value is in range: only a nozzle has one.
@@ -65,39 +84,39 @@ fn good_later(kind: u8, value: u16) -> bool
     ensures { result ≡ good_later kind value }
 {
     if kind == CertificateKind::NOZZLE {
-        return NozzleDiameter::check(value);
+        NozzleDiameter::check(value)
+    } else {
+        Unused::check(value)
     }
-    Unused::check(value)
 }
 
-fn value_rows(c: Certificate) -> Trouble
-    ensures { result ≡ checks Clear (value_rows c) }
+fn value_rows(c: Certificate) -> Result<(), BadFile>
+    ensures { trouble_of result ≡ checks Clear (value_rows c) }
 {
-    let t = Trouble::Clear;
-    let t = t.unless(good_first(c.kind, c.first), Trouble::FIELD, 10);
-    let t = t.unless(good_later(c.kind, c.second), Trouble::FIELD, 12);
-    t.unless(good_later(c.kind, c.third), Trouble::FIELD, 14)
+    trouble::check(&[
+        Row::field(10, good_first(c.kind, c.first)),
+        Row::field(12, good_later(c.kind, c.second)),
+        Row::field(14, good_later(c.kind, c.third)),
+    ])
 }
 
-fn rows(v: Version, c: Certificate) -> Trouble
-    ensures { result ≡ checks Clear (certificate_rows v c) }
+fn rows(v: Version, c: Certificate) -> Result<(), BadFile>
+    ensures { trouble_of result ≡ checks Clear (certificate_rows v c) }
 {
-    let t = Trouble::Clear;
-    let t = t.unless(CertificateKind::check(c.kind), Trouble::FIELD, 0);
-    let t = identities::rows(t, c.identity, 1);
-    let Trouble::Clear = t else {
-        return t;
-    };
-    value_rows(c).from(opening::letters(v, 1))
+    trouble::check(&[Row::field(0, CertificateKind::check(c.kind))])?;
+    identities::rows(c.identity, 1)?;
+    trouble::from(opening::letters(v, 1), value_rows(c))
 }
 
-pub fn trouble(s: &[u8], v: Version, at: usize) -> Trouble
-    requires { v ≡ version_of s.now }
-    ensures { result ≡ certificate_trouble s.now at }
+pub fn trouble(f: JobFile<'_>, at: usize) -> Result<(), BadFile>
+    ensures { trouble_of result ≡ certificate_trouble f.entry.bytes.now at }
 {
-    let t = numbers::tail(s, at);
-    if t.len() < identities::size(v, SIZE, 1) {
-        return Trouble::At(Trouble::INCOMPLETE, s.len());
+    let t = numbers::tail(f.bytes, at);
+    if t.len() < identities::size(f.version, SIZE, 1) {
+        return Err(BadFile {
+            why: Reason::Incomplete,
+            place: f.bytes.len(),
+        });
     }
-    rows(v, certificate(t, v)).from(at)
+    trouble::from(at, rows(f.version, certificate(t, f.version)))
 }

@@ -1,23 +1,25 @@
 // A run's header, 64 bytes, in version 2 67, before its points, segments and weighings.
 
 ghost use Rattle.std.specs.Prelude.{◌≡◌, ◌≤◌, length};
-ghost use Rattle.fields.specs.declared.trouble.Trouble.TheVariants.{Clear};
-ghost use Rattle.fields.specs.Trouble.{checks};
+ghost use Rattle.fields.specs.Trouble.{Clear, checks};
+ghost use Rattle.fields.specs.Refusals.{trouble_of};
 ghost use Rattle.readings.specs.declared.headers.Version.TheVariants.{One};
-ghost use Rattle.opening.specs.Opening.{version_of};
 ghost use Rattle.heads.specs.Values.{run_header_size, site, acetone, counts, header_with, header};
 ghost use Rattle.heads.specs.Rows.{reading_rows, header_rows, header_trouble};
 
 use fields::numbers;
-use fields::trouble::Trouble;
+use fields::trouble::{self, BadFile, Row};
+use opening::JobFile;
 use readings::certificates::Unused;
 use readings::headers::Version;
+use readings::range::Reading;
 use readings::runs::{
     AcetoneDensity, Barometer, BlankVolume, CarbonDioxide, FirstReading, LastReading, Oxygen,
     PointCount, RinseVolume, RunNumber, SegmentCount, Shape, Side, StaticPressure, Water,
     WeighingCount,
 };
 use records::{Acetone, Counts, RunHeader, Site};
+use refusals::Reason;
 
 // Its bytes without the letters.
 const SIZE: usize = 64;
@@ -96,55 +98,50 @@ pub fn header(t: &[u8], v: Version) -> RunHeader
     header_with(t, identities::behind(t, v, 3), v)
 }
 
-fn reading_rows(h: RunHeader, spare: u8) -> Trouble
-    ensures { result ≡ checks Clear (reading_rows h spare) }
+fn reading_rows(h: RunHeader, spare: u8) -> Result<(), BadFile>
+    ensures { trouble_of result ≡ checks Clear (reading_rows h spare) }
 {
-    let t = Trouble::Clear;
-    let t = t.unless(Barometer::check(h.pb), Trouble::FIELD, 25);
-    let t = t.unless(StaticPressure::check(h.pg), Trouble::FIELD, 27);
-    let t = t.unless(CarbonDioxide::check(h.co2), Trouble::FIELD, 29);
-    let t = t.unless(Oxygen::check(h.o2, h.co2), Trouble::FIELD, 31);
-    let t = t.unless(FirstReading::check(h.first), Trouble::FIELD, 33);
-    let t = t.unless(LastReading::check(h.last, h.first), Trouble::FIELD, 37);
-    let t = t.unless(Water::check(h.water), Trouble::FIELD, 41);
-    let t = t.unless(Shape::check(h.site.shape), Trouble::FIELD, 43);
-    let t = t.unless(Side::check(h.site.first), Trouble::FIELD, 44);
-    let t = t.unless(
-        Side::check_second(h.site.second, h.site.shape),
-        Trouble::FIELD,
-        46,
-    );
-    let t = t.unless(BlankVolume::check(h.acetone.blank), Trouble::FIELD, 54);
-    let t = t.unless(RinseVolume::check(h.acetone.rinse), Trouble::FIELD, 56);
-    let t = t.unless(AcetoneDensity::check(h.acetone.density), Trouble::FIELD, 58);
-    let t = t.unless(PointCount::check(h.counts.points), Trouble::COUNT, 60);
-    let t = t.unless(SegmentCount::check(h.counts.segments), Trouble::COUNT, 61);
-    let t = t.unless(WeighingCount::check(h.counts.weighings), Trouble::COUNT, 62);
-    t.unless(Unused::check(spare as u16), Trouble::FIELD, 63)
+    trouble::check(&[
+        Row::field(25, Barometer::check(h.pb)),
+        Row::field(27, StaticPressure::check(h.pg)),
+        Row::field(29, CarbonDioxide::check(h.co2)),
+        Row::field(31, Oxygen::check(h.o2, h.co2)),
+        Row::field(33, FirstReading::check(h.first)),
+        Row::field(37, LastReading::check(h.last, h.first)),
+        Row::field(41, Water::check(h.water)),
+        Row::field(43, Shape::check(h.site.shape)),
+        Row::field(44, Side::check(h.site.first)),
+        Row::field(46, Side::check_second(h.site.second, h.site.shape)),
+        Row::field(54, BlankVolume::check(h.acetone.blank)),
+        Row::field(56, RinseVolume::check(h.acetone.rinse)),
+        Row::field(58, AcetoneDensity::check(h.acetone.density)),
+        Row::count(60, PointCount::check(h.counts.points)),
+        Row::count(61, SegmentCount::check(h.counts.segments)),
+        Row::count(62, WeighingCount::check(h.counts.weighings)),
+        Row::field(63, Unused::check(spare as u16)),
+    ])
 }
 
-fn rows(v: Version, h: RunHeader, spare: u8) -> Trouble
-    ensures { result ≡ checks Clear (header_rows v h spare) }
+fn rows(v: Version, h: RunHeader, spare: u8) -> Result<(), BadFile>
+    ensures { trouble_of result ≡ checks Clear (header_rows v h spare) }
 {
-    let t = Trouble::Clear;
-    let t = t.unless(RunNumber::check(h.number), Trouble::FIELD, 0);
-    let t = identities::rows(t, h.meter, 4);
-    let t = identities::rows(t, h.pitot, 11 + opening::letters(v, 1));
-    let t = identities::rows(t, h.nozzle, 18 + opening::letters(v, 2));
-    let Trouble::Clear = t else {
-        return t;
-    };
-    reading_rows(h, spare).from(opening::letters(v, 3))
+    trouble::check(&[Row::field(0, RunNumber::check(h.number))])?;
+    identities::rows(h.meter, 4)?;
+    identities::rows(h.pitot, 11 + opening::letters(v, 1))?;
+    identities::rows(h.nozzle, 18 + opening::letters(v, 2))?;
+    trouble::from(opening::letters(v, 3), reading_rows(h, spare))
 }
 
-pub fn trouble(s: &[u8], v: Version, at: usize) -> Trouble
-    requires { v ≡ version_of s.now }
-    ensures { result ≡ header_trouble s.now at }
+pub fn trouble(f: JobFile<'_>, at: usize) -> Result<(), BadFile>
+    ensures { trouble_of result ≡ header_trouble f.entry.bytes.now at }
 {
-    let t = numbers::tail(s, at);
-    if t.len() < size(v) {
-        return Trouble::At(Trouble::INCOMPLETE, s.len());
+    let t = numbers::tail(f.bytes, at);
+    if t.len() < size(f.version) {
+        return Err(BadFile {
+            why: Reason::Incomplete,
+            place: f.bytes.len(),
+        });
     }
-    let spare = numbers::byte(identities::behind(t, v, 3), 63);
-    rows(v, header(t, v), spare).from(at)
+    let spare = numbers::byte(identities::behind(t, f.version, 3), 63);
+    trouble::from(at, rows(f.version, header(t, f.version), spare))
 }

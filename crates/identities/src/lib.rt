@@ -5,15 +5,17 @@
 #![tactic(auto)]
 
 ghost use Rattle.std.specs.Prelude.{◌≡◌, ◌+◌, ◌^◌, ◌<◌, ◌≤◌, length};
-ghost use Rattle.fields.specs.Trouble.{checks};
+ghost use Rattle.fields.specs.Trouble.{Clear, checks};
+ghost use Rattle.fields.specs.Refusals.{trouble_of};
 ghost use Rattle.records.specs.InRange.{maker_letters};
 ghost use Rattle.opening.specs.Opening.{letters};
 ghost use Rattle.identities.specs.Identities.{letter_at, identity, behind, identity_rows};
 
 use fields::numbers;
-use fields::trouble::Trouble;
+use fields::trouble::{self, BadFile, Row};
 use readings::certificates::{Letter, RebuildLetter, Serial};
 use readings::headers::Version;
+use readings::range::Reading;
 use records::{Identity, Maker};
 
 // The letter at a place of a record.
@@ -62,20 +64,17 @@ pub fn behind(t: &[u8], v: Version, n: usize) -> &[u8]
 fn maker_letters(m: Maker) -> bool
     ensures { result ≡ maker_letters m }
 {
-    if !Letter::check(m.first) {
-        return false;
-    }
-    if !Letter::check(m.second) {
-        return false;
-    }
-    Letter::check(m.third)
+    Letter::check(m.first) && Letter::check(m.second) && Letter::check(m.third)
 }
 
-pub fn rows(met: Trouble, id: Identity, at: usize) -> Trouble
+// The rows of an identity at a place of a record.
+pub fn rows(id: Identity, at: usize) -> Result<(), BadFile>
     requires { at + 7 < 2 ^ 64 }
-    ensures { result ≡ checks met (identity_rows at id) }
+    ensures { trouble_of result ≡ checks Clear (identity_rows at id) }
 {
-    let after = met.unless(maker_letters(id.maker), Trouble::FIELD, at);
-    let after = after.unless(Serial::check(id.serial), Trouble::FIELD, at + 3);
-    after.unless(RebuildLetter::check(id.letter), Trouble::FIELD, at + 7)
+    trouble::check(&[
+        Row::field(at, maker_letters(id.maker)),
+        Row::field(at + 3, Serial::check(id.serial)),
+        Row::field(at + 7, RebuildLetter::check(id.letter)),
+    ])
 }

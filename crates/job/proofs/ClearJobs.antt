@@ -9,7 +9,7 @@ use native.Mathlib.Omega.{arith}
 use borrow.Author.Tests.{leb-true, eq-eqb, not-true}
 use lib.ListN.{length}
 use Rattle.readings.specs.Ranges.{least_point_count, greatest_point_count, least_segment_count, greatest_segment_count, greatest_weighing_count}
-use Rattle.fields.specs.declared.trouble.Trouble.TheVariants.{Clear}
+use Rattle.fields.specs.Trouble.{Clear}
 use Rattle.fields.proofs.FirstTrouble.{clear_left, clear_right, unless_clear, each_clear}
 use Rattle.readings.proofs.Ranges.{within_greatest}
 use Rattle.records.specs.declared.Identity.{Identity}

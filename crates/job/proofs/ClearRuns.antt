@@ -8,7 +8,7 @@ use native.Mathlib.Omega.{arith}
 use borrow.Author.Tests.{ltb-true, eqb-true}
 use lib.Dec.{lit≤}
 use lib.ListN.{length}
-use Rattle.fields.specs.declared.trouble.Trouble.TheVariants.{Clear}
+use Rattle.fields.specs.Trouble.{Clear}
 use Rattle.fields.proofs.FirstTrouble.{clear_left, clear_right, unless_clear}
 use Rattle.readings.specs.Ranges.{total_seconds}
 use Rattle.readings.proofs.Ranges.{both_left, both_right}

@@ -10,9 +10,7 @@ use lib.Dec.{leb, ltb, lit≤}
 use lib.ListN.{length, drop, length-drop}
 use Rattle.parts.specs.Values.{point_size, segment_size, weighing_size}
 use Rattle.readings.specs.Ranges.{least_point_count, greatest_point_count, least_segment_count, greatest_segment_count, greatest_weighing_count, greatest_certificate_count}
-use Rattle.fields.specs.declared.trouble.Trouble.{Trouble}
-use Rattle.fields.specs.declared.trouble.Trouble.TheVariants.{Clear, At}
-use Rattle.fields.specs.Trouble.{first, trouble_unless, incomplete, repeated, wrong_seconds, left_over, Row, checks, trouble_place, from, up_to, record_trouble}
+use Rattle.fields.specs.Trouble.{Trouble, Clear, At, first, trouble_unless, incomplete, repeated, wrong_seconds, left_over, Row, checks, trouble_place, from, up_to, record_trouble}
 use Rattle.fields.proofs.FirstTrouble.{each, clear_left, each_clear, checks_reach}
 use Rattle.readings.proofs.Ranges.{within_greatest}
 use Rattle.records.specs.declared.Counts.{Counts}

@@ -1,64 +1,47 @@
--- A job that was read: its trouble is its file's. Without trouble its counts are the file's too, and each run starts where the file has it and ends within.
+-- What is read of a file: a refusal's place fits an answer, and a job's counts are the file's, and each of its runs starts where the file has it and ends within.
 use Prim.Native.Nat.{ℕ, ◌^◌, ◌≤◌, ◌<◌}
-use mathlib.Core.Path.{◌≡◌, refl, sym, ◌∙◌, ap, subst⁻¹}
+use mathlib.Core.Path.{◌≡◌, ◌∙◌, ap, subst⁻¹}
 use mathlib.Core.List.{List}
 use native.Mathlib.Omega.{arith}
 use lib.ListN.{length, get_or, drop}
 use Rattle.readings.specs.Ranges.{greatest_run_count}
 use Rattle.arrays.proofs.Arrays.{pad_at}
-use Rattle.fields.specs.declared.trouble.Trouble.{Trouble}
-use Rattle.fields.specs.declared.trouble.Trouble.TheVariants.{Clear, At}
+use Rattle.fields.specs.Trouble.{At}
 use Rattle.fields.proofs.Tails.{enough}
 use Rattle.opening.specs.Opening.{certificate_count_of, run_count_of}
 use Rattle.parts.specs.Values.{RunWithin}
 use Rattle.job.specs.declared.Job.{Job}
 use Rattle.job.specs.Places.{run_start}
 use Rattle.job.specs.Troubles.{job_trouble}
-use Rattle.job.specs.Reading.{job_of, read_job, ClearJob}
+use Rattle.job.specs.Reading.{job_in, ClearJob}
 use Rattle.job.proofs.ClearJobs.{job_clear, run_within}
 use Rattle.job.proofs.Reach.{places}
 use Rattle.job.proofs.WholeFile.{run_count_lem}
 
--- In trouble or not
-
--- the trouble that a job tells is its file's
-trouble_told : (s : List ℕ) (u : Trouble) → (job_of u s).trouble ≡ u
-trouble_told s Clear = refl
-trouble_told s (At n p) = refl
-
-job_trouble_lem : (s : List ℕ) {j : Job} → j ≡ read_job s → job_trouble s ≡ j.trouble
-unfolding read_job
-job_trouble_lem s e = sym (trouble_told s (job_trouble s)) ∙ ap (λ (i : Job). i.trouble) (sym e)
-
-pub read_refused : (s : List ℕ) {j : Job} {n p : ℕ} → j ≡ read_job s → j.trouble ≡ At n p → job_trouble s ≡ At n p
-read_refused s e t = job_trouble_lem s e ∙ t
-
-pub read_clear : (s : List ℕ) {j : Job} → j ≡ read_job s → j.trouble ≡ Clear → ClearJob s j
-read_clear s e t = record { is = e; clear = job_trouble_lem s e ∙ t }
+-- In trouble
 
 -- a refusal's place fits 32 bits
-pub place_fits : (s : List ℕ) {j : Job} {n p : ℕ} → j ≡ read_job s → j.trouble ≡ At n p → p < 2 ^ 32
-place_fits s e t = omega (arith, places s (read_refused s e t))
+pub place_fits : (s : List ℕ) {n p : ℕ} → job_trouble s ≡ At n p → p < 2 ^ 32
+place_fits s e = omega (arith, places s e)
 
 -- Without trouble
 
 module _ (s : List ℕ) (j : Job) (ok : ClearJob s j) where
-  whole : j ≡ job_of Clear s
-  unfolding read_job
-  whole = ok.is ∙ ap (λ t. job_of t s) ok.clear
-
   pub count_of_runs : j.runs ≡ run_count_of s
-  count_of_runs = ap (λ (i : Job). i.runs) whole
+  unfolding job_in
+  count_of_runs = ap (λ (i : Job). i.runs) ok.is
 
   pub count_of_certificates : j.certificates ≡ certificate_count_of s
-  count_of_certificates = ap (λ (i : Job). i.certificates) whole
+  unfolding job_in
+  count_of_certificates = ap (λ (i : Job). i.certificates) ok.is
 
   pub few_runs : j.runs ≤ greatest_run_count
   few_runs = rw count_of_runs (run_count_lem s (job_clear s ok.clear).file)
 
   pub start_of : (k : ℕ) → k < run_count_of s → get_or j.starts k 0 ≡ run_start s k
+  unfolding job_in
   start_of k inside =
-      ap (λ (i : Job). get_or i.starts k 0) whole
+      ap (λ (i : Job). get_or i.starts k 0) ok.is
       ∙ pad_at greatest_run_count 0 (run_start s) (run_count_of s) k inside (run_count_lem s (job_clear s ok.clear).file)
 
   -- its runs lie within the file

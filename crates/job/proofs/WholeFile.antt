@@ -1,30 +1,27 @@
--- The header's counts and the certificates of a file, and the job that is read from it.
+-- The header's counts and the certificates of a file, and what is read of a file in trouble.
 use Prim.Native.Nat.{ℕ, zero, suc, ◌≤◌}
-use mathlib.Core.Path.{◌≡◌, refl, sym, ◌∙◌, ap}
+use mathlib.Core.Path.{◌≡◌, sym}
 use mathlib.Core.List.{List}
 use native.Mathlib.Nat.{lt-suc_self}
 use native.Mathlib.Omega.{arith}
 use lib.Dec.{lit≤}
 use lib.ListN.{length}
 use Rattle.readings.specs.Ranges.{greatest_run_count, least_run_count, greatest_certificate_count}
-use Rattle.fields.specs.declared.trouble.Trouble.{Trouble}
-use Rattle.fields.specs.declared.trouble.Trouble.TheVariants.{Clear, At}
-use Rattle.fields.specs.Trouble.{first, up_to}
-use Rattle.fields.proofs.FirstTrouble.{clear_left, each_clear, first_met}
+use Rattle.std.specs.Prelude.{Result, Ok, Err, IsErrAnd}
+use Rattle.refusals.specs.Reasons.{reason_number}
+use Rattle.fields.specs.declared.trouble.BadFile.{BadFile}
+use Rattle.fields.specs.Trouble.{Clear, At, up_to}
+use Rattle.fields.proofs.FirstTrouble.{clear_left, each_clear, first_at}
 use Rattle.readings.proofs.Ranges.{within_greatest}
-use Rattle.arrays.specs.Arrays.{padded}
 use Rattle.fields.proofs.RecordTrouble.{complete_at, good_at}
 use Rattle.opening.specs.Opening.{file_header_size, version_of, certificate_count_of, run_count_of, file_rows, file_trouble}
 use Rattle.opening.proofs.HowMany.{few}
 use Rattle.heads.specs.Values.{certificate_place, certificate_size}
 use Rattle.heads.proofs.Places.{next_place}
 use Rattle.job.specs.declared.Job.{Job}
-use Rattle.job.specs.declared.runs.Walk.{Walk}
-use Rattle.job.specs.Places.{run_start}
 use Rattle.entries.specs.Entries.{entry_trouble}
-use Rattle.job.specs.Troubles.{runs_trouble, end_trouble, job_trouble}
-use Rattle.job.specs.Walks.{stopped, walk_of, walk}
-use Rattle.job.specs.Reading.{refused_job, job_of, read_job}
+use Rattle.job.specs.Troubles.{job_trouble}
+use Rattle.job.specs.Reading.{IsRead}
 
 -- a header without trouble has no more certificates and runs than there may be
 pub certificate_count_lem : (s : List ℕ) → file_trouble s ≡ Clear → certificate_count_of s ≤ greatest_certificate_count
@@ -41,40 +38,12 @@ certificates_fit s (suc n) e f =
     let last = complete_at s (certificate_place v n) (certificate_size v) _ (omega arith) (clear_left _ _ (each_clear (entry_trouble s) (suc n) f n (lt-suc_self n))) in
     rw (next_place v n) last
 
--- A refusal is the job in that trouble ..
-pub refuses : (s : List ℕ) {r : Job} {t : Trouble} {n p : ℕ} → r ≡ refused_job t → t ≡ At n p → t ≡ job_trouble s → r ≡ read_job s
-unfolding read_job
-refuses s e told first = e ∙ ap refused_job told ∙ ap (λ (t : Trouble). job_of t s) (sym told ∙ first)
-
--- .. the header's trouble before any other ..
-pub header_refuses : (s : List ℕ) {r : Job} {t : Trouble} {n p : ℕ} → r ≡ refused_job t → t ≡ file_trouble s → t ≡ At n p → r ≡ read_job s
+-- A refusal of the header is the job's: it comes before any other
+pub header_refuses : (s : List ℕ) {n p : ℕ} → file_trouble s ≡ At n p → job_trouble s ≡ At n p
 unfolding job_trouble
-header_refuses s e met told = refuses s e told (first_met _ met told)
+header_refuses s told = first_at _ told
 
--- .. and a job without trouble is the one that the file holds
-pub accepts : (s : List ℕ) {r : Job} → r ≡ job_of Clear s → Clear ≡ job_trouble s → r ≡ read_job s
-unfolding read_job
-accepts s e clear = e ∙ ap (λ (t : Trouble). job_of t s) clear
-
--- The walk over the runs: at the first trouble it stops ..
-pub walk_stops : (s : List ℕ) (n : ℕ) {r : Walk} {t : Trouble} {m p : ℕ} → r ≡ stopped t → t ≡ At m p → t ≡ first (runs_trouble s n) (end_trouble s (run_start s n)) → r ≡ walk s n
-unfolding walk
-walk_stops s n e told met = e ∙ ap stopped told ∙ ap (λ (t : Trouble). walk_of t s n) (sym told ∙ met)
-
--- .. and without trouble it has noted every run
-pub walk_ends : (s : List ℕ) (n : ℕ) {starts : List ℕ} → starts ≡ padded greatest_run_count 0 (run_start s) n → Clear ≡ first (runs_trouble s n) (end_trouble s (run_start s n)) → ◌≡◌ {A = Walk} (record { trouble = Clear; starts = starts }) (walk s n)
-unfolding walk
-walk_ends s n e clear = (λ i. record { trouble = Clear; starts = e i }) ∙ ap (λ (t : Trouble). walk_of t s n) clear
-
--- what it tells is the first trouble, and where that is none, each run's start
-pub walk_told : (s : List ℕ) (n : ℕ) → (walk s n).trouble ≡ first (runs_trouble s n) (end_trouble s (run_start s n))
-unfolding walk
-walk_told s n = same (first (runs_trouble s n) (end_trouble s (run_start s n)))
-  where
-    same : (t : Trouble) → (walk_of t s n).trouble ≡ t
-    same Clear = refl
-    same (At number place) = refl
-
-pub walk_starts : (s : List ℕ) (n : ℕ) → (walk s n).trouble ≡ Clear → (walk s n).starts ≡ padded greatest_run_count 0 (run_start s) n
-unfolding walk
-walk_starts s n e = ap (λ (t : Trouble). (walk_of t s n).starts) (sym (walk_told s n) ∙ e)
+-- What is read where the first trouble is handed on by a `?`
+pub read_stops : (s : List ℕ) (q : Result Job BadFile) (e : BadFile) → IsErrAnd q (λ y. y ≡ e) → At (reason_number e.why) e.place ≡ job_trouble s → IsRead s q
+read_stops s (Ok j) e same told = absurd same
+read_stops s (Err y) e same told = rw same (sym told)

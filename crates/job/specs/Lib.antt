@@ -2,5 +2,4 @@
 pub mod Places
 pub mod Troubles
 pub mod Reading
-pub mod Walks
 pub mod Worked

@@ -1,7 +1,6 @@
 -- The first trouble of a job, in the order of docs/RULES.md, Refusals: header, certificates, runs, bytes left over.
 use Rattle.std.specs.Prelude.{ℕ, zero, suc, ◌+◌, Bool, ◌&&◌, List, leb, ltb, eqb, length}
-use Rattle.fields.specs.declared.trouble.Trouble.{Trouble}
-use Rattle.fields.specs.Trouble.{first, trouble_unless, repeated, wrong_seconds, left_over, up_to}
+use Rattle.fields.specs.Trouble.{Trouble, first, trouble_unless, repeated, wrong_seconds, left_over, up_to}
 use Rattle.readings.specs.Ranges.{total_seconds}
 use Rattle.readings.specs.declared.headers.Version.{Version}
 use Rattle.records.specs.declared.Counts.{Counts}

@@ -1,7 +1,6 @@
 -- The worked job of docs/RULES.md, byte for byte and value for value, in either version, and small files that are refused.
 use Rattle.std.specs.Prelude.{ℕ, zero, suc, ◌+◌, ◌-◌, ◌/◌, ◌%◌, List, [], ◌∷◌, ◌++◌, replicate}
-use Rattle.fields.specs.declared.trouble.Trouble.{Trouble}
-use Rattle.fields.specs.declared.trouble.Trouble.TheVariants.{Clear, At}
+use Rattle.fields.specs.Trouble.{Trouble, At}
 use Rattle.readings.specs.declared.headers.Version.{Version}
 use Rattle.readings.specs.declared.headers.Version.TheVariants.{One, Two}
 use Rattle.readings.specs.Ranges.{no_letter}
@@ -90,7 +89,6 @@ near_job points each = varied One 9800 1919 points each 3600
 abbrev pub worked_read : Version → Job
 worked_read v =
     record {
-      trouble = Clear;
       certificates = 4;
       runs = 1;
       starts = (73 + letters v 4) ∷ replicate 15 0;

@@ -6,68 +6,47 @@
 mod runs;
 
 ghost use Rattle.std.specs.Prelude.{◌≡◌};
-ghost use Rattle.fields.specs.declared.trouble.Trouble.TheVariants.{Clear};
+ghost use Rattle.fields.specs.Trouble.{Clear};
 ghost use Rattle.opening.specs.Opening.{file_trouble};
-ghost use Rattle.job.specs.Reading.{refused_job, read_job};
+ghost use Rattle.job.specs.Reading.{IsRead};
 
 use fields::numbers;
-use fields::trouble::Trouble;
+use fields::trouble::BadFile;
 use heads::certificate;
+use opening::JobFile;
 use readings::headers::RunCount;
+use readings::range::Reading;
 
-// What a file holds. A job in trouble holds nothing: no certificates, no runs, and zeros for places.
+// What a file holds.
 #[derive(Clone, Copy)]
 pub struct Job {
-    pub trouble: Trouble,
     pub certificates: usize,
     pub runs: usize,
+    // Where each run starts; zeros behind the last.
     pub starts: [usize; RunCount::GREATEST as usize],
 }
 
-fn refused_job(t: Trouble) -> Job
-    ensures { result ≡ refused_job t }
-{
-    Job {
-        trouble: t,
-        certificates: 0,
-        runs: 0,
-        starts: [0usize; RunCount::GREATEST as usize],
-    }
-}
-
 // The job in a file, or the first trouble met in it.
-pub fn read(s: &[u8]) -> Job
-    ensures { result ≡ read_job s.now }
+pub fn read(s: &[u8]) -> Result<Job, BadFile>
+    ensures { IsRead s.now result }
 {
-    let t = opening::trouble(s);
-    let Trouble::Clear = t else {
-        return refused_job(t);
-    };
+    opening::trouble(s)?;
     read_records(s)
 }
 
 // The same where the header is known to be in no trouble.
-pub fn read_records(s: &[u8]) -> Job
+pub fn read_records(s: &[u8]) -> Result<Job, BadFile>
     requires { file_trouble s.now ≡ Clear }
-    ensures { result ≡ read_job s.now }
+    ensures { IsRead s.now result }
 {
     let certificates = numbers::u16_at(s, opening::CERTIFICATES_AT) as usize;
     let runs = numbers::u16_at(s, opening::RUNS_AT) as usize;
-    let v = opening::version(s);
-    let t = entries::troubles(s, v, certificates);
-    let Trouble::Clear = t else {
-        return refused_job(t);
-    };
-    let w = runs::read(s, v, certificate::place(v, certificates), runs);
-    let t = w.trouble;
-    let Trouble::Clear = t else {
-        return refused_job(t);
-    };
-    let starts = w.starts;
-    Job {
-        trouble: Trouble::Clear,
+    let f = JobFile::of(s);
+    entries::troubles(f, certificates)?;
+    let starts = runs::read(f, certificate::place(f.version, certificates), runs)?;
+    Ok(Job {
         certificates,
         runs,
         starts,
-    }
+    })
 }

@@ -1,130 +1,114 @@
 // The runs of a job: each in itself, their numbers rising, and nothing after the last.
 
-ghost use Rattle.std.specs.Prelude.{◌≡◌, ◌+◌, ◌≤◌, length};
-ghost use Rattle.opening.specs.Opening.{version_of};
+ghost use Rattle.std.specs.Prelude.{◌≡◌, ◌+◌, ◌≤◌, length, IfOk};
+ghost use Rattle.fields.specs.Trouble.{first};
+ghost use Rattle.fields.specs.Refusals.{trouble_of};
+ghost use Rattle.arrays.specs.Arrays.{padded};
 ghost use Rattle.heads.specs.Values.{run_header_size};
 ghost use Rattle.readings.specs.Ranges.{greatest_run_count};
 ghost use Rattle.parts.specs.Values.{segment_place};
 ghost use Rattle.job.specs.Places.{next_start, run_start};
-ghost use Rattle.job.specs.Troubles.{good_seconds, parts_trouble, run_trouble};
-ghost use Rattle.job.specs.Walks.{stopped, walk};
+ghost use Rattle.job.specs.Troubles.{good_seconds, parts_trouble, run_trouble, runs_trouble, end_trouble};
 
 use fields::numbers;
-use fields::trouble::Trouble;
+use fields::trouble::BadFile;
 use heads::header;
-use parts::{point, segment, weighing};
-use readings::headers::{RunCount, Version};
+use opening::JobFile;
+use parts::part::{self, Part};
+use readings::headers::RunCount;
 use readings::points::TotalSeconds;
-use records::Counts;
+use readings::range::Reading;
+use records::{Counts, Point, Segment, Weighing};
+use refusals::Reason;
 
-// Where each run starts; zeros where there is trouble.
-#[derive(Clone, Copy)]
-pub struct Walk {
-    pub trouble: Trouble,
-    pub starts: [usize; RunCount::GREATEST as usize],
-}
-
-fn good_seconds(s: &[u8], v: Version, start: usize, n: Counts) -> bool
-    requires { (v ≡ version_of s.now) × (segment_place v start n n.segments ≤ length s.now) }
-    ensures { result ≡ good_seconds s.now start n }
+fn good_seconds(f: JobFile<'_>, start: usize, n: Counts) -> bool
+    requires { segment_place f.version start n n.segments ≤ length f.bytes.now }
+    ensures { result ≡ good_seconds f.entry.bytes.now start n }
 {
     let points = n.points as usize;
     let segments = n.segments as usize;
-    let at = start + header::size(v);
-    let by_points = parts::seconds(numbers::tail(s, at), point::SIZE, points);
-    let at_segments = at + point::SIZE * points;
-    let by_segments = parts::seconds(numbers::tail(s, at_segments), segment::SIZE, segments);
-    if !TotalSeconds::check(by_points) {
-        return false;
-    }
-    by_segments == by_points
+    let at = start + header::size(f.version);
+    let by_points = parts::seconds(numbers::tail(f.bytes, at), Point::SIZE, points);
+    let at_segments = at + Point::SIZE * points;
+    let by_segments = parts::seconds(numbers::tail(f.bytes, at_segments), Segment::SIZE, segments);
+    TotalSeconds::check(by_points) && by_segments == by_points
 }
 
 // The trouble of what follows a run's header.
-fn parts_trouble(s: &[u8], v: Version, start: usize, n: Counts) -> Trouble
-    requires { (v ≡ version_of s.now) × (start + run_header_size v ≤ length s.now) }
-    ensures { result ≡ parts_trouble s.now start n }
+fn parts_trouble(f: JobFile<'_>, start: usize, n: Counts) -> Result<(), BadFile>
+    requires { start + run_header_size f.version ≤ length f.bytes.now }
+    ensures { trouble_of result ≡ parts_trouble f.entry.bytes.now start n }
 {
     let points = n.points as usize;
     let segments = n.segments as usize;
     let weighings = n.weighings as usize;
-    let at_points = start + header::size(v);
-    let t = point::troubles(s, at_points, points);
-    let Trouble::Clear = t else {
-        return t;
-    };
-    let at_segments = at_points + point::SIZE * points;
-    let t = segment::troubles(s, at_segments, segments);
-    let Trouble::Clear = t else {
-        return t;
-    };
-    let at_weighings = at_segments + segment::SIZE * segments;
-    let t = weighing::troubles(s, at_weighings, weighings);
-    t.unless(good_seconds(s, v, start, n), Trouble::SECONDS, start)
+    let at_points = start + header::size(f.version);
+    part::troubles::<Point>(f.bytes, at_points, points)?;
+    let at_segments = at_points + Point::SIZE * points;
+    part::troubles::<Segment>(f.bytes, at_segments, segments)?;
+    let at_weighings = at_segments + Segment::SIZE * segments;
+    part::troubles::<Weighing>(f.bytes, at_weighings, weighings)?;
+    if !good_seconds(f, start, n) {
+        return Err(BadFile {
+            why: Reason::Seconds,
+            place: start,
+        });
+    }
+    Ok(())
 }
 
 // The trouble of a run whose number has to be above `lower`.
-fn run_trouble(s: &[u8], v: Version, start: usize, lower: u16) -> Trouble
-    requires { (v ≡ version_of s.now) × (start ≤ length s.now) }
-    ensures { result ≡ run_trouble s.now start lower }
+fn run_trouble(f: JobFile<'_>, start: usize, lower: u16) -> Result<(), BadFile>
+    requires { start ≤ length f.bytes.now }
+    ensures { trouble_of result ≡ run_trouble f.entry.bytes.now start lower }
 {
-    let t = header::trouble(s, v, start);
-    let Trouble::Clear = t else {
-        return t;
-    };
-    let h = header::header(numbers::tail(s, start), v);
+    header::trouble(f, start)?;
+    let h = header::header(numbers::tail(f.bytes, start), f.version);
     if h.number <= lower {
-        return Trouble::At(Trouble::REPEATED, start);
+        return Err(BadFile {
+            why: Reason::Repeated,
+            place: start,
+        });
     }
-    let n = h.counts;
-    parts_trouble(s, v, start, n)
+    parts_trouble(f, start, h.counts)
 }
 
 // The place after the run that starts at `start`.
-fn next_start(s: &[u8], v: Version, start: usize) -> usize
-    requires { (v ≡ version_of s.now) × (start + run_header_size v ≤ length s.now) }
-    ensures { result ≡ next_start s.now start }
+fn next_start(f: JobFile<'_>, start: usize) -> usize
+    requires { start + run_header_size f.version ≤ length f.bytes.now }
+    ensures { result ≡ next_start f.entry.bytes.now start }
 {
-    let t = numbers::tail(s, start);
-    let n = header::counts(identities::behind(t, v, 3));
-    let at_segments = start + header::size(v) + point::SIZE * (n.points as usize);
-    let at_weighings = at_segments + segment::SIZE * (n.segments as usize);
-    at_weighings + weighing::SIZE * (n.weighings as usize)
+    let t = numbers::tail(f.bytes, start);
+    let n = header::counts(identities::behind(t, f.version, 3));
+    let at_segments = start + header::size(f.version) + Point::SIZE * (n.points as usize);
+    let at_weighings = at_segments + Segment::SIZE * (n.segments as usize);
+    at_weighings + Weighing::SIZE * (n.weighings as usize)
 }
 
-fn stopped(t: Trouble) -> Walk
-    ensures { result ≡ stopped t }
+// Where each of the `n` runs of the file starts, of which the first starts at `start`; or the first trouble met in them or behind them.
+pub fn read(
+    f: JobFile<'_>,
+    start: usize,
+    n: usize,
+) -> Result<[usize; RunCount::GREATEST as usize], BadFile>
+    requires { (n ≤ greatest_run_count) × (start ≡ run_start f.bytes.now 0) × (start ≤ length f.bytes.now) }
+    ensures trouble { trouble_of result ≡ first (runs_trouble f.entry.bytes.now n) (end_trouble f.entry.bytes.now (run_start f.entry.bytes.now n)) }
+    ensures starts { IfOk result (λ starts. starts ≡ padded greatest_run_count 0 (run_start f.entry.bytes.now) n) }
 {
-    Walk {
-        trouble: t,
-        starts: [0usize; RunCount::GREATEST as usize],
-    }
-}
-
-// The `n` runs of the file, the first of which starts at `first`, up to the first in trouble.
-pub fn read(s: &[u8], v: Version, first: usize, n: usize) -> Walk
-    requires { (v ≡ version_of s.now) × (n ≤ greatest_run_count) × (first ≡ run_start s.now 0) × (first ≤ length s.now) }
-    ensures { result ≡ walk s.now n }
-{
-    let mut starts = [0usize; RunCount::GREATEST as usize];
-    let mut at = first;
-    let mut lower: u16 = 0;
-    let mut k = 0;
-    while k < n {
-        let t = run_trouble(s, v, at, lower);
-        let Trouble::Clear = t else {
-            return stopped(t);
-        };
+    let mut starts = [0; RunCount::GREATEST as usize];
+    let mut at = start;
+    let mut lower = 0;
+    for k in 0..n {
+        run_trouble(f, at, lower)?;
         starts[k] = at;
-        lower = numbers::u16_at(numbers::tail(s, at), 0);
-        at = next_start(s, v, at);
-        k += 1;
+        lower = numbers::u16_at(numbers::tail(f.bytes, at), 0);
+        at = next_start(f, at);
     }
-    if at < s.len() {
-        return stopped(Trouble::At(Trouble::LEFT_OVER, at));
+    if at < f.bytes.len() {
+        return Err(BadFile {
+            why: Reason::LeftOver,
+            place: at,
+        });
     }
-    Walk {
-        trouble: Trouble::Clear,
-        starts,
-    }
+    Ok(starts)
 }

@@ -8,8 +8,7 @@ use borrow.Author.Tests.{le-leb, lt-leb}
 use lib.ListN.{length, take, replicate, length-append}
 use Rattle.arrays.specs.Arrays.{filled_to}
 use Rattle.arrays.proofs.Filled.{filled_front}
-use Rattle.output.specs.declared.Answer.{Answer}
-use Rattle.output.specs.declared.Answer.TheVariants.{Done, Refused}
+use Rattle.output.specs.Answers.{Answer, Done, Refused}
 use Rattle.output.specs.Splice.{spliced}
 use Rattle.traverse.specs.declared.Layout.{Layout}
 use Rattle.traverse.specs.Layout.{most_distances, IsLayout}

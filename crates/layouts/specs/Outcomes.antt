@@ -1,8 +1,6 @@
 -- What comes of a call for a layout: decided by its arguments and by the length of the lent output, before a byte is written.
 use Rattle.std.specs.Prelude.{ℕ, ◌*◌, ◌≡◌, Bool, true, false, List, leb, length, get_or}
-use Rattle.output.specs.Answers.{short_output, outside_ranges}
-use Rattle.output.specs.declared.Answer.{Answer}
-use Rattle.output.specs.declared.Answer.TheVariants.{Done, Refused}
+use Rattle.output.specs.Answers.{short_output, outside_ranges, Answer, Done, Refused}
 use Rattle.output.specs.Bytes.{le, joined}
 use Rattle.output.specs.Splice.{spliced}
 use Rattle.distances.specs.Round.{round_fits}

@@ -1,6 +1,6 @@
 -- What the public calls promise: the answer as one number, and what every lent byte is afterwards.
 use Rattle.std.specs.Prelude.{ℕ, ◌≡◌, List, length}
-use Rattle.figures.specs.declared.Supplied.{Supplied}
+use Rattle.figures.specs.Figures.{Supplied}
 use Rattle.output.specs.Answers.{packed}
 use Rattle.printed.specs.Printing.{printing_by, printing_answer, printing_out}
 use Rattle.layouts.specs.Outcomes.{LayoutOutcome, layout_answer, layout_out}

@@ -1,5 +1,4 @@
 -- The laws that the proofs of the sheet share, and the starred values.
 pub mod RunInRange
 pub mod Together
-pub mod Written
 pub mod Starred

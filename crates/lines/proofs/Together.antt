@@ -1,9 +1,9 @@
 -- All twenty lines of a run, each group from the ones before it.
+use Rattle.std.specs.Prelude.{Option, ℕ}
 use mathlib.Core.Path.{◌≡◌}
 use lib.IntN.{ℤ}
 use Rattle.records.specs.declared.Run.{Run}
 use Rattle.values.specs.declared.Diameters.{Diameters}
-use Rattle.values.specs.declared.Value.{Value}
 use Rattle.metering.specs.declared.Metering.{Metering}
 use Rattle.metering.specs.Metering.{metering}
 use Rattle.stack.specs.declared.Stack.{Stack}
@@ -13,7 +13,7 @@ use Rattle.sampling.specs.Sampling.{sampling}
 use Rattle.lines.specs.declared.Lines.{Lines}
 use Rattle.lines.specs.Sheet.{lines}
 
-pub is_lines : (r : Run) (y cp : Value) (nozzle : Diameters) {m : Metering} {s : Stack} {p : Sampling} {pg : ℤ} →
+pub is_lines : (r : Run) (y cp : Option ℕ) (nozzle : Option Diameters) {m : Metering} {s : Stack} {p : Sampling} {pg : ℤ} →
     pg ≡ r.header.pg →
     m ≡ metering r y →
     s ≡ stack r.header.co2 r.header.o2 m.moisture r.header.pb pg r.points r.header.counts.points cp →

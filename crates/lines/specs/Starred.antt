@@ -1,12 +1,8 @@
 -- The starred values of docs/RULES.md that belong to the lines, and the worked job's sheet: what is worked out, beside what is printed.
-use Rattle.std.specs.Prelude.{ℕ, List, [], ◌∷◌, map, nat_abs}
+use Rattle.std.specs.Prelude.{ℕ, ℤ, List, [], ◌∷◌, map, nat_abs, Option, Some, None}
 use Rattle.records.specs.Worked.{worked_run}
-use Rattle.values.specs.declared.Diameters.TheVariants.{Measured}
-use Rattle.values.specs.declared.Value.TheVariants.{Known}
 use Rattle.metering.specs.Metering.{corrected_volume}
 use Rattle.stack.specs.Stack.{point_root}
-use Rattle.lines.specs.declared.Line.{Line}
-use Rattle.lines.specs.declared.Line.TheVariants.{Present, Absent}
 use Rattle.lines.specs.declared.Entry.{Entry}
 use Rattle.lines.specs.Sheet.{lines, sheet}
 
@@ -19,9 +15,9 @@ pub record Example : Type 0 where
 abbrev pub value_of : Entry → ℕ
 value_of e = go e.line
   where
-    go : Line → ℕ
-    go (Present z) = nat_abs z
-    go Absent = 0
+    go : Option ℤ → ℕ
+    go (Some z) = nat_abs z
+    go None = 0
 
 -- heads 0, 1, 500 and 10,000
 unfoldable pub roots : Example
@@ -43,7 +39,7 @@ leak =
 unfoldable pub worked_lines : Example
 worked_lines =
     record {
-      worked = map value_of (sheet (lines worked_run (Known 10000) (Known 840) (Measured 250 250 250))).entries;
+      worked = map value_of (sheet (lines worked_run (Some 10000) (Some 840) (Some (record { first = 250; second = 250; third = 250 })))).entries;
       expected =
           3600 ∷ 40000 ∷ 39400 ∷ 301471 ∷ 5400 ∷ 38801 ∷ 4707 ∷ 10819 ∷ 30160 ∷ 28844
           ∷ 299500 ∷ 6600 ∷ 70711 ∷ 8741 ∷ 44386 ∷ 34089 ∷ 90604 ∷ 9980 ∷ 1056 ∷ 4199 ∷ [];

@@ -17,17 +17,10 @@ pub struct Lines {
     pub sampling: Sampling,
 }
 
-// A line as it is written: present with its value, or absent.
-#[derive(Clone, Copy)]
-pub enum Line {
-    Present(i64),
-    Absent,
-}
-
-// A line in its place on the sheet.
+// A line in its place on the sheet: its value, where it is present.
 #[derive(Clone, Copy)]
 pub struct Entry {
-    pub line: Line,
+    pub line: Option<i64>,
 }
 
 // How many lines a sheet has.

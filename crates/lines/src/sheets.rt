@@ -5,30 +5,29 @@ ghost use Rattle.values.specs.Promise.{Between};
 ghost use Rattle.lines.specs.Promise.{RunWithValues, LinesOk};
 ghost use Rattle.lines.specs.Sheet.{lines, always, if_known, sheet};
 
-use crate::{Entry, Line, Lines, Sheet};
+use crate::{Entry, Lines, Sheet};
 use metering::group::metering;
 use records::Run;
 use sampling::group::sampling;
 use stack::group::stack;
-use values::{Diameters, Value};
+use values::Diameters;
 
 // All twenty, from a run and the values of its certificates.
-pub fn lines(run: Run, y: Value, cp: Value, nozzle: Diameters) -> Lines
+#[tactic(auto, using(metering::proofs::RunInRange::points_few))]
+pub fn lines(run: Run, y: Option<u64>, cp: Option<u64>, nozzle: Option<Diameters>) -> Lines
     requires { RunWithValues run y cp nozzle }
     ensures { (result ≡ lines run y cp nozzle) × LinesOk result }
 {
     let header = run.header;
-    let points = run.points;
+    let points = &run.points[..header.counts.points as usize];
     let m = metering(run, y);
-    let moisture = m.moisture;
     let s = stack(
         header.co2 as u64,
         header.o2 as u64,
-        moisture,
+        m.moisture,
         header.pb as u64,
         header.pg,
         points,
-        header.counts.points as usize,
         cp,
     );
     Lines {
@@ -44,19 +43,19 @@ fn always(value: u64) -> Entry
     ensures { result ≡ always value }
 {
     Entry {
-        line: Line::Present(value as i64),
+        line: Some(value as i64),
     }
 }
 
 // A line that is absent where its value is missing.
-fn if_known(value: Value) -> Entry
+fn if_known(value: Option<u64>) -> Entry
     requires { Between 0 9223372036854775807 value }
     ensures { result ≡ if_known value }
 {
-    let Value::Known(number) = value else {
-        return Entry { line: Line::Absent };
-    };
-    always(number)
+    match value {
+        Some(number) => always(number),
+        None => Entry { line: None },
+    }
 }
 
 // The sheet: lines 1 to 20 in order.
@@ -67,15 +66,6 @@ pub fn sheet(lines: Lines) -> Sheet
     let m = lines.metering;
     let s = lines.stack;
     let p = lines.sampling;
-    let dry = m.dry;
-    let moisture = m.moisture;
-    let wet = s.wet;
-    let density = s.density;
-    let velocity = s.velocity;
-    let area = p.area;
-    let drawn = p.drawn;
-    let isokinetic = p.isokinetic;
-    let concentration = p.concentration;
     Sheet {
         entries: [
             always(m.time),
@@ -83,23 +73,23 @@ pub fn sheet(lines: Lines) -> Sheet
             always(m.corrected),
             always(m.pressure),
             always(m.temperature),
-            if_known(dry),
+            if_known(m.dry),
             always(m.vapor),
-            if_known(moisture),
+            if_known(m.moisture),
             always(s.dry),
-            if_known(wet),
+            if_known(s.wet),
             always(s.pressure),
             always(s.temperature),
             always(s.root),
-            if_known(density),
-            if_known(velocity),
-            if_known(area),
-            if_known(drawn),
-            if_known(isokinetic.rounded()),
+            if_known(s.density),
+            if_known(s.velocity),
+            if_known(p.area),
+            if_known(p.drawn),
+            if_known(values::rounded(p.isokinetic)),
             Entry {
-                line: Line::Present(p.catch),
+                line: Some(p.catch),
             },
-            if_known(concentration),
+            if_known(p.concentration),
         ],
     }
 }

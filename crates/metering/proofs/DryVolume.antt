@@ -1,4 +1,5 @@
 -- Line 6 is never 0: of a run and a factor in range, where line 3 is at least 1, it is at least 1.
+use Rattle.std.specs.Prelude.{Some}
 use Prim.Native.Nat.{ℕ, ◌*◌, ◌^◌, ◌≤◌}
 use mathlib.Core.Path.{◌≡◌, refl}
 use native.Mathlib.Nat.{mul-le-mul}
@@ -10,7 +11,6 @@ use Rattle.readings.specs.Ranges.{within, signed_within, least_factor, least_bar
 use Rattle.readings.proofs.LeastVolume.{half_a_unit}
 use Rattle.records.specs.declared.Run.{Run}
 use Rattle.records.specs.InRange.{RunOk}
-use Rattle.values.specs.declared.Value.TheVariants.{Known}
 use Rattle.values.specs.Signed.{add_scaled}
 use Rattle.metering.specs.Metering.{mean_orifice, meter_temperature, metering}
 use Rattle.metering.specs.Promise.{least_meter_pressure, least_meter_rankine, greatest_meter_rankine, least_dry_volume}
@@ -26,7 +26,7 @@ dry_least some factor low cold warm =
     le_round_exact _ _ least_dry_volume (omega (arith, cold)) (omega (arith, corner, warm, mul-le-mul some (mul-le-mul factor low)))
 
 -- line 6 of a run
-pub dry_some : (r : Run) (y : ℕ) → RunOk r → least_factor ≤ y → 1 ≤ (metering r (Known y)).corrected → (d : ℕ) × (((metering r (Known y)).dry ≡ Known d) × (least_dry_volume ≤ d))
+pub dry_some : (r : Run) (y : ℕ) → RunOk r → least_factor ≤ y → 1 ≤ (metering r (Some y)).corrected → (d : ℕ) × (((metering r (Some y)).dry ≡ Some d) × (least_dry_volume ≤ d))
 unfolding metering mean_orifice meter_temperature
 dry_some r y ok factor some =
     let pb = pb_range r ok in

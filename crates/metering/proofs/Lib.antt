@@ -4,5 +4,6 @@ pub mod Passes
 pub mod Products
 pub mod DryVolume
 pub mod Cases
+pub mod Taken
 pub mod RunInRange
 pub mod Together

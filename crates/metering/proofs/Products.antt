@@ -13,9 +13,6 @@ leaked_most s h ok = mul-le-mul (mul-le-mul_left 5 h) (leak_most ok)
 pub loss_most : {excess : ℕ} (s : Segment) → SegmentOk s → excess ≤ 180000000 → s.seconds * excess ≤ 6480000000000
 loss_most s ok h = mul-le-mul (segment_seconds_most ok) h
 
-pub whole_most : {t v : ℕ} → t ≤ greatest_total_seconds → v ≤ greatest_above_first → 300 * t * v ≤ 10799989200000
-whole_most ht hv = mul-le-mul (mul-le-mul_left 300 ht) hv
-
 -- Line 6
 pub dry_product : {corrected f : ℕ} → corrected ≤ greatest_above_first → f ≤ greatest_factor → 1764 * corrected * f ≤ 19403980596000
 dry_product h y = mul-le-mul (mul-le-mul_left 1764 h) y

@@ -1,7 +1,7 @@
 -- What a run in range offers to lines 1 to 8.
 use Prim.Native.Nat.{◌+◌, ◌≤◌}
 use native.Mathlib.Omega.{arith}
-use Rattle.readings.specs.Ranges.{least_barometer, greatest_barometer, greatest_above_first, greatest_water, greatest_total_seconds}
+use Rattle.readings.specs.Ranges.{greatest_point_count, greatest_segment_count, least_barometer, greatest_barometer, greatest_above_first, greatest_water, greatest_total_seconds}
 use Rattle.readings.proofs.Ranges.{within_least, within_greatest}
 use Rattle.records.specs.declared.Run.{Run}
 use Rattle.records.specs.InRange.{RunOk}
@@ -19,6 +19,12 @@ module _ (r : Run) (ok : RunOk r) where
 
   pub segments_ok : SegmentsOk r.segments r.header.counts.segments
   segments_ok = record { few = within_greatest _ _ _ ok.header.segments; each = ok.segments }
+
+  pub points_few : r.header.counts.points ≤ greatest_point_count
+  points_few = points_ok.few
+
+  pub segments_few : r.header.counts.segments ≤ greatest_segment_count
+  segments_few = segments_ok.few
 
   pub time_most_lem : time r.points r.header.counts.points ≤ greatest_total_seconds
   unfolding time

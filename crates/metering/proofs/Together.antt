@@ -1,12 +1,12 @@
 -- Lines 1 to 8 of a run, each from the ones before it.
+use Rattle.std.specs.Prelude.{Option}
 use Prim.Native.Nat.{ℕ}
 use mathlib.Core.Path.{◌≡◌}
 use Rattle.records.specs.declared.Run.{Run}
-use Rattle.values.specs.declared.Value.{Value}
 use Rattle.metering.specs.declared.Metering.{Metering}
 use Rattle.metering.specs.Metering.{time, metered_volume, corrected_volume, mean_orifice, meter_pressure, meter_temperature, dry_volume, water_vapor, moisture, metering}
 
-pub is_metering : (r : Run) (y : Value) {t v corrected h pressure temperature vapor : ℕ} {dry wet : Value} →
+pub is_metering : (r : Run) (y : Option ℕ) {t v corrected h pressure temperature vapor : ℕ} {dry wet : Option ℕ} →
     t ≡ time r.points r.header.counts.points →
     v ≡ metered_volume r.header.first r.header.last →
     corrected ≡ corrected_volume t v r.segments r.header.counts.segments →

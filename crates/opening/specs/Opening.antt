@@ -1,9 +1,8 @@
 -- The header of a job file (docs/RULES.md, Header): mark, version, and how many certificates and runs follow; and what the version
 -- says of the records behind it.
 use Rattle.std.specs.Prelude.{ℕ, Bool, cond, ◌&&◌, List, [], ◌∷◌, eqb}
-use Rattle.fields.specs.declared.trouble.Trouble.{Trouble}
 use Rattle.fields.specs.Numbers.{byte_at, u16_at}
-use Rattle.fields.specs.Trouble.{wrong_mark, wrong_version, Row, count, record_trouble}
+use Rattle.fields.specs.Trouble.{Trouble, wrong_mark, wrong_version, Row, count, record_trouble}
 use Rattle.readings.specs.declared.headers.Version.{Version}
 use Rattle.readings.specs.declared.headers.Version.TheVariants.{One, Two}
 use Rattle.readings.specs.Ranges.{version, certificate_count, run_count}

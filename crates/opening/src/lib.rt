@@ -5,11 +5,14 @@
 #![tactic(auto)]
 
 ghost use Rattle.std.specs.Prelude.{◌≡◌, ◌≤◌, length};
+ghost use Rattle.fields.specs.Refusals.{trouble_of};
 ghost use Rattle.opening.specs.Opening.{file_header_size, marked, version_of, letters, file_trouble};
 
 use fields::numbers;
-use fields::trouble::Trouble;
+use fields::trouble::{self, BadFile, Row};
 use readings::headers::{CertificateCount, RunCount, Version};
+use readings::range::Reading;
+use refusals::Reason;
 
 // How many bytes it has; the certificates stand behind it.
 pub const SIZE: usize = 9;
@@ -26,24 +29,39 @@ fn marked(s: &[u8]) -> bool
     requires { file_header_size ≤ length s.now }
     ensures { result ≡ marked s.now }
 {
-    if numbers::byte(s, 0) != 83 {
-        return false;
-    }
-    if numbers::byte(s, 1) != 82 {
-        return false;
-    }
-    numbers::byte(s, 2) == 74
+    s.starts_with(b"SRJ")
 }
 
 // The version that the file says.
-pub fn version(s: &[u8]) -> Version
+fn version(s: &[u8]) -> Version
     requires { file_header_size ≤ length s.now }
     ensures { result ≡ version_of s.now }
 {
     if numbers::u16_at(s, VERSION_AT) == 2 {
-        return Version::Two;
+        Version::Two
+    } else {
+        Version::One
     }
-    Version::One
+}
+
+// A job's file, and the version that it says: asked once, and handed on with the bytes.
+#[derive(Clone, Copy)]
+pub struct JobFile<'a> {
+    pub bytes: &'a [u8],
+    pub version: Version,
+    pub ghost said: { version ≡ version_of bytes.now },
+}
+
+impl<'a> JobFile<'a> {
+    pub fn of(bytes: &'a [u8]) -> JobFile<'a>
+        requires { file_header_size ≤ length bytes.now }
+        ensures { result.bytes.now ≡ bytes.now }
+    {
+        JobFile {
+            bytes,
+            version: version(bytes),
+        }
+    }
 }
 
 // How many letters an identity has.
@@ -64,27 +82,30 @@ pub fn letters(v: Version, n: usize) -> usize
 }
 
 // The first trouble met in the header.
-pub fn trouble(s: &[u8]) -> Trouble
-    ensures { result ≡ file_trouble s.now }
+pub fn trouble(s: &[u8]) -> Result<(), BadFile>
+    ensures { trouble_of result ≡ file_trouble s.now }
 {
     if s.len() < SIZE {
-        return Trouble::At(Trouble::INCOMPLETE, s.len());
+        return Err(BadFile {
+            why: Reason::Incomplete,
+            place: s.len(),
+        });
     }
-    let t = Trouble::Clear;
-    let t = t.unless(marked(s), Trouble::MARK, 0);
-    let t = t.unless(
-        Version::check(numbers::u16_at(s, VERSION_AT)),
-        Trouble::VERSION,
-        VERSION_AT,
-    );
-    let t = t.unless(
-        CertificateCount::check(numbers::u16_at(s, CERTIFICATES_AT)),
-        Trouble::COUNT,
-        CERTIFICATES_AT,
-    );
-    t.unless(
-        RunCount::check(numbers::u16_at(s, RUNS_AT)),
-        Trouble::COUNT,
-        RUNS_AT,
-    )
+    trouble::check(&[
+        Row {
+            ok: marked(s),
+            why: Reason::Mark,
+            place: 0,
+        },
+        Row {
+            ok: Version::check(numbers::u16_at(s, VERSION_AT)),
+            why: Reason::Version,
+            place: VERSION_AT,
+        },
+        Row::count(
+            CERTIFICATES_AT,
+            CertificateCount::check(numbers::u16_at(s, CERTIFICATES_AT)),
+        ),
+        Row::count(RUNS_AT, RunCount::check(numbers::u16_at(s, RUNS_AT))),
+    ])
 }

@@ -2,3 +2,4 @@
 pub mod Splice
 pub mod Bytes
 pub mod Records
+pub mod Refusals

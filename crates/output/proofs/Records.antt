@@ -6,8 +6,8 @@ use mathlib.Core.Logic.{◌⊎◌, inl, inr}
 use native.Mathlib.Nat.{mul-suc, mul-zero, zero-add, le_antisymm, lt_trans, lt-suc_self, eq-or-lt_of_le, le_of_suc-le-suc}
 use native.Mathlib.Numerals.{add-one}
 use native.Mathlib.Omega.{arith}
-use lib.ListN.{length, take, drop, length-append}
-use lib.Seq.{take_at, drop_at}
+use lib.ListN.{length, take, drop, get_or, length-append}
+use lib.Seq.{take_at, drop_at, length-take-le, get_or-take}
 use Rattle.output.specs.Bytes.{joined}
 use Rattle.output.specs.Splice.{spliced}
 use Rattle.output.proofs.Splice.{length_spliced, spliced_none, spliced_more}
@@ -78,3 +78,9 @@ record_at bytes size equal old n i inside =
     ap (λ b. take size (drop (size * i) b)) whole
     ∙ ap (take size) (drop_at (joined bytes i) _ (size * i) (joined_length bytes size equal i))
     ∙ take_at (bytes i) _ size (equal i)
+
+-- the records of a list's front are its first ones
+pub joined_taken : {A : Type 0} (d : A) (bytes : A → List ℕ) (xs : List A) (n : ℕ) → n ≤ length xs → joined (λ i. bytes (get_or (take n xs) i d)) (length (take n xs)) ≡ joined (λ i. bytes (get_or xs i d)) n
+joined_taken d bytes xs n held =
+    ap (joined (λ i. bytes (get_or (take n xs) i d))) (length-take-le n xs held)
+    ∙ joined_ext _ _ n (λ i inside. ap bytes (get_or-take n xs i d inside))

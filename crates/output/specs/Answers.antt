@@ -1,7 +1,17 @@
 -- A call's refusals, and its answer as one 64-bit number.
-use Rattle.std.specs.Prelude.{ℕ, ◌+◌, ◌*◌}
-use Rattle.output.specs.declared.Answer.{Answer}
-use Rattle.output.specs.declared.Answer.TheVariants.{Done, Refused}
+use Rattle.std.specs.Prelude.{ℕ, ◌+◌, ◌*◌, Result, Ok, Err}
+use Rattle.refusals.specs.Reasons.{reason_number}
+use Rattle.output.specs.declared.Refusal.{Refusal}
+
+-- what a call answers: done, with a number; or refused, with its number and the place
+pub data Answer : Type 0 where
+  Done : ℕ → Answer
+  Refused : ℕ → ℕ → Answer
+
+-- the answer that the code tells; it tells what the code answers, since no two reasons have one number (reason_apart of refusals)
+abbrev pub answer_told : Result ℕ Refusal → Answer
+answer_told (Ok value) = Done value
+answer_told (Err r) = Refused (reason_number r.why) r.place
 
 -- The refusal numbers of a call, behind those of a file
 

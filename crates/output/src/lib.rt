@@ -1,39 +1,52 @@
 // What a call gives back: its answer as one number, and bytes written one after another into a buffer that the caller lends.
-// Each writer's contract says what every byte of the buffer is afterwards. Relies on nothing below it.
+// Each writer's contract says what every byte of the buffer is afterwards. Relies on the reasons to refuse, and on what is
+// wrong with a file.
 
 #![tactic(auto)]
 
-ghost use Rattle.std.specs.Prelude.{◌≡◌, [], ◌∷◌, ◌+◌, ◌<◌, ◌≤◌, length};
-ghost use Rattle.output.specs.Answers.{packed};
-ghost use Rattle.output.specs.Bytes.{le, signed_bits};
+ghost use Rattle.std.specs.Prelude.{◌≡◌, [], ◌∷◌, ◌+◌, ◌<◌, ◌≤◌, length, min};
+ghost use Rattle.output.specs.Answers.{answer_told, packed};
+ghost use Rattle.output.specs.Bytes.{le};
 ghost use Rattle.output.specs.Splice.{spliced};
 
-// What a call answers: done, with a number; or refused, with its number and the place.
+use fields::trouble::BadFile;
+use refusals::Reason;
+
+// Why a call is refused, and the place that this is about: a byte of a file, or 0 where it is about none.
 #[derive(Clone, Copy)]
-pub enum Answer {
-    Done(u32),
-    Refused(u32, u32),
+pub struct Refusal {
+    pub why: Reason,
+    pub place: u32,
 }
 
-impl Answer {
-    // Why a call is refused, apart from its file: a lent output that is too short, no run of that number, a traverse layout
-    // outside its ranges, a finding that the run does not have.
-    pub const SHORT_OUTPUT: u32 = 9;
+// A refusal that is about no place.
+impl From<Reason> for Refusal {
+    ghost from_gives = { λ why r. r ≡ record { why = why; place = 0 } };
 
-    pub const UNKNOWN_RUN: u32 = 10;
+    fn from(why: Reason) -> Refusal {
+        Refusal { why, place: 0 }
+    }
+}
 
-    pub const OUTSIDE_RANGES: u32 = 11;
+// A refusal of a file. No file that is read is so long that a place does not fit.
+impl From<BadFile> for Refusal {
+    ghost from_gives = { λ e r. r ≡ record { why = e.why; place = min e.place 4294967295 } };
 
-    pub const UNKNOWN_FINDING: u32 = 15;
-
-    // The answer as the caller sees it: the refusal's number in the high 32 bits, 0 where there is none.
-    pub fn packed(self) -> u64
-        ensures { result ≡ packed self }
-    {
-        match self {
-            Answer::Done(value) => value as u64,
-            Answer::Refused(number, place) => number as u64 * 4294967296 + place as u64,
+    fn from(e: BadFile) -> Refusal {
+        Refusal {
+            why: e.why,
+            place: e.place.min(u32::MAX as usize) as u32,
         }
+    }
+}
+
+// The answer as the caller sees it: the refusal's number in the high 32 bits, 0 where there is none.
+pub fn packed(answer: Result<u32, Refusal>) -> u64
+    ensures { result ≡ packed (answer_told answer) }
+{
+    match answer {
+        Ok(value) => value as u64,
+        Err(r) => r.why.number() as u64 * 4_294_967_296 + r.place as u64,
     }
 }
 
@@ -51,22 +64,8 @@ pub fn put_number(out: &mut [u8], at: usize, width: usize, value: u64)
     ensures { out.new ≡ spliced out.old at (le width value) }
 {
     let mut rest = value;
-    let mut i: usize = 0;
-    while i < width {
+    for i in 0..width {
         put_byte(out, at + i, (rest % 256) as u8);
-        rest = rest / 256;
-        i += 1;
-    }
-}
-
-// The 64 bits of a signed number.
-pub fn signed_bits(value: i64) -> u64
-    ensures { result ≡ signed_bits value }
-{
-    if value < 0 {
-        let below = !value;
-        18446744073709551615 - below as u64
-    } else {
-        value as u64
+        rest /= 256;
     }
 }

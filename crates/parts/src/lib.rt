@@ -3,20 +3,21 @@
 
 #![tactic(auto)]
 
-pub mod point;
-pub mod segment;
-pub mod weighing;
+pub mod part;
+mod point;
+mod segment;
+mod weighing;
 
 ghost use Rattle.std.specs.Prelude.{◌≡◌, ◌*◌, ◌≤◌, length, drop};
 ghost use Rattle.fields.specs.Numbers.{u16_at};
 ghost use Rattle.records.specs.Records.{sum_to};
-ghost use Rattle.opening.specs.Opening.{version_of};
 ghost use Rattle.parts.specs.Values.{point_size, run_at, RunWithin};
 
+use crate::part::Part;
 use fields::numbers;
 use heads::header;
-use readings::headers::Version;
-use records::Run;
+use opening::JobFile;
+use records::{Point, Run, Segment};
 
 // The seconds of `n` records of one size from the front of `t` on: each of a run's points and segments begins with them.
 pub fn seconds(t: &[u8], size: usize, n: usize) -> u32
@@ -24,32 +25,30 @@ pub fn seconds(t: &[u8], size: usize, n: usize) -> u32
     ensures { result ≡ sum_to (λ i. u16_at (drop (size * i) t.now) 0) n }
 {
     let mut total: u32 = 0;
-    let mut i = 0;
-    while i < n {
+    for i in 0..n {
         total += numbers::u16_at(t, size * i) as u32;
-        i += 1;
     }
     total
 }
 
-// The run that starts at a place of a file of that version.
-pub fn run(s: &[u8], v: Version, start: usize) -> Run
-    requires { (v ≡ version_of s.now) × RunWithin s.now start }
-    ensures { result ≡ run_at s.now start }
+// The run that starts at a place of a file.
+pub fn run(f: JobFile<'_>, start: usize) -> Run
+    requires { RunWithin f.bytes.now start }
+    ensures { result ≡ run_at f.entry.bytes.now start }
 {
-    let t = numbers::tail(s, start);
-    let header = header::header(t, v);
+    let t = numbers::tail(f.bytes, start);
+    let header = header::header(t, f.version);
     let counts = header.counts;
     let points = counts.points as usize;
     let segments = counts.segments as usize;
     let weighings = counts.weighings as usize;
-    let at_points = numbers::tail(t, header::size(v));
-    let at_segments = numbers::tail(at_points, point::SIZE * points);
-    let at_weighings = numbers::tail(at_segments, segment::SIZE * segments);
+    let at_points = numbers::tail(t, header::size(f.version));
+    let at_segments = numbers::tail(at_points, Point::SIZE * points);
+    let at_weighings = numbers::tail(at_segments, Segment::SIZE * segments);
     Run {
         header,
-        points: point::points(at_points, points),
-        segments: segment::segments(at_segments, segments),
-        weighings: weighing::weighings(at_weighings, weighings),
+        points: part::list(at_points, points),
+        segments: part::list(at_segments, segments),
+        weighings: part::list(at_weighings, weighings),
     }
 }

@@ -1,80 +1,54 @@
 // A segment between two leak checks, 4 bytes.
 
-ghost use Rattle.std.specs.Prelude.{◌≡◌, ◌*◌, ◌≤◌, length};
-ghost use Rattle.fields.specs.declared.trouble.Trouble.TheVariants.{Clear};
-ghost use Rattle.fields.specs.Trouble.{checks};
-ghost use Rattle.readings.specs.Ranges.{greatest_segment_count};
+ghost use Rattle.std.proofs.Common.{refl, lit≤};
+ghost use Rattle.fields.proofs.FirstTrouble.{checks_reach};
 ghost use Rattle.records.specs.Records.{no_segment};
-ghost use Rattle.arrays.specs.Arrays.{padded};
-ghost use Rattle.parts.specs.Values.{segment_size, segment, segment_at};
-ghost use Rattle.parts.specs.Rows.{segment_rows, segment_trouble, segments_trouble};
+ghost use Rattle.parts.specs.Values.{segment_size, segment};
+ghost use Rattle.parts.specs.Rows.{segment_rows};
 
+use crate::part::Part;
 use fields::numbers;
-use fields::trouble::Trouble;
+use fields::trouble::{self, BadFile, Row};
 use readings::points::{LeakRate, Seconds};
-use readings::runs::SegmentCount;
+use readings::range::Reading;
 use records::Segment;
 
-pub const SIZE: usize = 4;
+impl Part for Segment {
+    const SIZE: usize = 4;
 
-pub fn segment(t: &[u8]) -> Segment
-    requires { segment_size ≤ length t.now }
-    ensures { result ≡ segment t.now }
-{
-    Segment {
-        seconds: numbers::u16_at(t, 0),
-        leak: numbers::u16_at(t, 2),
+    ghost SIZE = { segment_size };
+
+    ghost held = { segment };
+
+    ghost rows = { λ t. segment_rows (segment t) };
+
+    ghost none = { no_segment };
+
+    fn read(t: &[u8]) -> Segment {
+        Segment {
+            seconds: numbers::u16_at(t, 0),
+            leak: numbers::u16_at(t, 2),
+        }
     }
-}
 
-fn rows(g: Segment) -> Trouble
-    ensures { result ≡ checks Clear (segment_rows g) }
-{
-    let t = Trouble::Clear;
-    let t = t.unless(Seconds::check(g.seconds), Trouble::FIELD, 0);
-    t.unless(LeakRate::check(g.leak), Trouble::FIELD, 2)
-}
-
-pub fn trouble(s: &[u8], at: usize) -> Trouble
-    ensures { result ≡ segment_trouble s.now at }
-{
-    let t = numbers::tail(s, at);
-    if t.len() < SIZE {
-        return Trouble::At(Trouble::INCOMPLETE, s.len());
+    fn check(t: &[u8]) -> Result<(), BadFile> {
+        let g = Segment::read(t);
+        trouble::check(&[
+            Row::field(0, Seconds::check(g.seconds)),
+            Row::field(2, LeakRate::check(g.leak)),
+        ])
     }
-    rows(segment(t)).from(at)
-}
 
-// The first trouble of `n` segments that stand one after the other from `at` on.
-pub fn troubles(s: &[u8], at: usize, n: usize) -> Trouble
-    requires { (at ≤ length s.now) × (n ≤ 255) }
-    ensures { result ≡ segments_trouble s.now at n }
-{
-    let mut i = 0;
-    while i < n {
-        let t = trouble(s, at + SIZE * i);
-        let Trouble::Clear = t else {
-            return t;
-        };
-        i += 1;
+    fn none() -> Segment {
+        Segment {
+            seconds: 0,
+            leak: 0,
+        }
     }
-    Trouble::Clear
-}
 
-// The `n` segments from the front of `t` on.
-pub fn segments(t: &[u8], n: usize) -> [Segment; SegmentCount::GREATEST as usize]
-    requires { (n ≤ greatest_segment_count) × (segment_size * n ≤ length t.now) }
-    ensures { result ≡ padded greatest_segment_count no_segment (λ i. segment_at t.now (segment_size * i)) n }
-{
-    let none = Segment {
-        seconds: 0,
-        leak: 0,
-    };
-    let mut all = [none; SegmentCount::GREATEST as usize];
-    let mut i = 0;
-    while i < n {
-        all[i] = segment(numbers::tail(t, SIZE * i));
-        i += 1;
-    }
-    all
+    ghost some = { lit≤ tt };
+
+    ghost small = { lit≤ tt };
+
+    ghost within = { λ t. checks_reach 4 (segment_rows (segment t)) refl };
 }

@@ -1,14 +1,11 @@
 -- What comes of the call for a job's text: decided by the figure, by the job and by the length of the output, before a byte of it is
 -- written.
 use Rattle.std.specs.Prelude.{ℕ, ◌≡◌, cond, List, ltb, length}
-use Rattle.fields.specs.declared.trouble.Trouble.{Trouble}
-use Rattle.fields.specs.declared.trouble.Trouble.TheVariants.{Clear, At}
+use Rattle.fields.specs.Trouble.{Trouble, Clear, At}
 use Rattle.steps.specs.declared.Figure.{Figure}
-use Rattle.figures.specs.declared.Supplied.{Supplied}
+use Rattle.figures.specs.Figures.{Supplied}
 use Rattle.job.specs.Troubles.{job_trouble}
-use Rattle.output.specs.Answers.{short_output}
-use Rattle.output.specs.declared.Answer.{Answer}
-use Rattle.output.specs.declared.Answer.TheVariants.{Done, Refused}
+use Rattle.output.specs.Answers.{short_output, Answer, Done, Refused}
 use Rattle.output.specs.Splice.{spliced}
 use Rattle.printing.specs.Jobs.{job_text}
 

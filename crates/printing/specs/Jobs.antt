@@ -1,7 +1,6 @@
 -- What is printed of a file, as characters (docs/RULES.md, The printed text).
 use Rattle.std.specs.Prelude.{ℕ, List, ◌++◌}
-use Rattle.fields.specs.declared.trouble.Trouble.{Trouble}
-use Rattle.fields.specs.declared.trouble.Trouble.TheVariants.{Clear, At}
+use Rattle.fields.specs.Trouble.{Trouble, Clear, At}
 use Rattle.steps.specs.declared.Figure.{Figure}
 use Rattle.opening.specs.Opening.{run_count_of}
 use Rattle.job.specs.Troubles.{job_trouble}

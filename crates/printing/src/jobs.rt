@@ -1,12 +1,13 @@
 // What the program prints of a file: a refusal, or its runs in file order.
 
 ghost use Rattle.std.specs.Prelude.{◌≤◌, length};
-ghost use Rattle.characters.specs.Writing.{Room, Wrote};
+ghost use Rattle.refusals.specs.Reasons.{reason_number};
+ghost use Rattle.characters.specs.Writing.{Room, Wrote, WroteFront};
 ghost use Rattle.job.specs.Reading.{ClearJob};
 ghost use Rattle.printing.specs.Jobs.{refusal_text, runs_text, job_text};
 
-use characters::{put_decimal, put_word};
-use fields::trouble::Trouble;
+use characters::Writer;
+use fields::trouble::BadFile;
 use findings::Sought;
 use job::Job;
 use reduction::reduce;
@@ -17,42 +18,41 @@ use text::runs::put_run;
 pub const ROOM: usize = 27088;
 
 // A refusal: its number and its place.
-fn put_refusal(out: &mut [u8], at: usize, number: u32, place: usize) -> usize
-    requires { Room out.old at (refusal_text number place) }
-    ensures { Wrote out.old at (refusal_text number place) out.new result }
+fn put_refusal(to: &mut Writer<'_>, e: BadFile)
+    requires { Room to.old (refusal_text (reason_number e.why) e.place) }
+    ensures { Wrote to.old (refusal_text (reason_number e.why) e.place) to.new }
 {
-    let a = put_word(out, at, b"REFUSED ");
-    let b = put_decimal(out, a, number as u64);
-    let c = put_word(out, b, b" ");
-    let d = put_decimal(out, c, place as u64);
-    put_word(out, d, b"\n")
+    to.word(b"REFUSED ");
+    to.decimal(e.why.number() as u64);
+    to.word(b" ");
+    to.decimal(e.place as u64);
+    to.word(b"\n");
 }
 
-// The runs of a job without trouble, by a figure.
+// The runs of a job without trouble, by a figure, from the front of a buffer: how many characters they are.
 pub fn put_runs(figure: Figure, s: &[u8], job: Job, out: &mut [u8]) -> usize
     requires clear { ClearJob s.now job }
     requires room { 27088 ≤ length out.old }
-    ensures { Wrote out.old 0 (runs_text figure s.now job.runs) out.new result }
+    ensures { WroteFront out.old (runs_text figure s.now job.runs) out.new result }
 {
-    let runs = job.runs;
-    let mut next: usize = 0;
-    let mut k: usize = 0;
-    while k < runs {
-        next = put_run(out, next, reduce(s, job, figure, k, Sought::All));
-        k += 1;
+    let mut to = Writer { out, at: 0 };
+    for k in 0..job.runs {
+        put_run(&mut to, reduce(s, job, figure, k, Sought::All));
     }
-    next
+    to.at
 }
 
-// All that is printed of a file, by a figure.
+// All that is printed of a file, by a figure, from the front of a buffer: how many characters it is.
 pub fn put_job(figure: Figure, s: &[u8], out: &mut [u8]) -> usize
     requires { 27088 ≤ length out.old }
-    ensures { Wrote out.old 0 (job_text figure s.now) out.new result }
+    ensures { WroteFront out.old (job_text figure s.now) out.new result }
 {
-    let read = job::read(s);
-    let trouble = read.trouble;
-    if let Trouble::At(number, place) = trouble {
-        return put_refusal(out, 0, number, place);
+    match job::read(s) {
+        Ok(job) => put_runs(figure, s, job, out),
+        Err(e) => {
+            let mut to = Writer { out, at: 0 };
+            put_refusal(&mut to, e);
+            to.at
+        }
     }
-    put_runs(figure, s, read, out)
 }

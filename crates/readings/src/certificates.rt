@@ -1,9 +1,10 @@
 // What a certificate says: what it is of, whose, and the values found.
 
 ghost use Rattle.std.specs.Prelude.{◌≡◌};
-ghost use Rattle.readings.specs.Ranges.{certificate_kind, letter, serial, rebuild_letter, meter_factor, coefficient, nozzle_diameter, unused};
+ghost use Rattle.readings.specs.Ranges.{meter, nozzle, certificate_kind, least_letter, greatest_letter, letter, least_serial, greatest_serial, serial, rebuild_letter, least_factor, greatest_factor, meter_factor, least_coefficient, greatest_coefficient, coefficient, least_nozzle_diameter, greatest_nozzle_diameter, nozzle_diameter, unused};
+ghost use Rattle.readings.specs.InOrder.{unsigned};
 
-use crate::range;
+use crate::range::Reading;
 
 // What a certificate is of.
 pub struct CertificateKind;
@@ -14,50 +15,60 @@ impl CertificateKind {
     pub const PITOT: u8 = 2;
 
     pub const NOZZLE: u8 = 3;
+}
 
-    pub const LEAST: u8 = CertificateKind::METER;
+impl Reading for CertificateKind {
+    type Value = u8;
 
-    pub const GREATEST: u8 = CertificateKind::NOZZLE;
+    const LEAST: u8 = CertificateKind::METER;
 
-    pub fn check(value: u8) -> bool
-        ensures { result ≡ certificate_kind value }
-    {
-        range::holds(
-            value as u64,
-            CertificateKind::LEAST as u64,
-            CertificateKind::GREATEST as u64,
-        )
-    }
+    const GREATEST: u8 = CertificateKind::NOZZLE;
+
+    ghost LEAST = { meter };
+
+    ghost GREATEST = { nozzle };
+
+    ghost allowed = { certificate_kind };
+
+    ghost ranged = { unsigned _ _ };
 }
 
 // A letter of a maker's name, A to Z.
 pub struct Letter;
 
-impl Letter {
-    pub const LEAST: u8 = 65;
+impl Reading for Letter {
+    type Value = u8;
 
-    pub const GREATEST: u8 = 90;
+    const LEAST: u8 = 65;
 
-    pub fn check(value: u8) -> bool
-        ensures { result ≡ letter value }
-    {
-        range::holds(value as u64, Letter::LEAST as u64, Letter::GREATEST as u64)
-    }
+    const GREATEST: u8 = 90;
+
+    ghost LEAST = { least_letter };
+
+    ghost GREATEST = { greatest_letter };
+
+    ghost allowed = { letter };
+
+    ghost ranged = { unsigned _ _ };
 }
 
 // A serial number.
 pub struct Serial;
 
-impl Serial {
-    pub const LEAST: u32 = 1;
+impl Reading for Serial {
+    type Value = u32;
 
-    pub const GREATEST: u32 = 4_294_967_295;
+    const LEAST: u32 = 1;
 
-    pub fn check(value: u32) -> bool
-        ensures { result ≡ serial value }
-    {
-        range::holds(value as u64, Serial::LEAST as u64, Serial::GREATEST as u64)
-    }
+    const GREATEST: u32 = 4_294_967_295;
+
+    ghost LEAST = { least_serial };
+
+    ghost GREATEST = { greatest_serial };
+
+    ghost allowed = { serial };
+
+    ghost ranged = { unsigned _ _ };
 }
 
 // The letter that a rebuild gives, A to Z, or none.
@@ -69,77 +80,82 @@ impl RebuildLetter {
     pub fn check(value: u8) -> bool
         ensures { result ≡ rebuild_letter value }
     {
-        if value == RebuildLetter::NONE {
-            return true;
-        }
-        Letter::check(value)
+        value == RebuildLetter::NONE || Letter::check(value)
     }
 }
 
 // Meter factor Y, 1/10,000.
 pub struct Factor;
 
-impl Factor {
-    pub const LEAST: u16 = 9_000;
+impl Reading for Factor {
+    type Value = u16;
 
-    pub const GREATEST: u16 = 11_000;
+    const LEAST: u16 = 9_000;
 
-    pub fn check(value: u16) -> bool
-        ensures { result ≡ meter_factor value }
-    {
-        range::holds(value as u64, Factor::LEAST as u64, Factor::GREATEST as u64)
-    }
+    const GREATEST: u16 = 11_000;
+
+    ghost LEAST = { least_factor };
+
+    ghost GREATEST = { greatest_factor };
+
+    ghost allowed = { meter_factor };
+
+    ghost ranged = { unsigned _ _ };
 }
 
 // Pitot coefficient Cp, 1/1,000.
 pub struct Coefficient;
 
-impl Coefficient {
-    pub const LEAST: u16 = 500;
+impl Reading for Coefficient {
+    type Value = u16;
 
-    pub const GREATEST: u16 = 1_000;
+    const LEAST: u16 = 500;
 
-    pub fn check(value: u16) -> bool
-        ensures { result ≡ coefficient value }
-    {
-        range::holds(
-            value as u64,
-            Coefficient::LEAST as u64,
-            Coefficient::GREATEST as u64,
-        )
-    }
+    const GREATEST: u16 = 1_000;
+
+    ghost LEAST = { least_coefficient };
+
+    ghost GREATEST = { greatest_coefficient };
+
+    ghost allowed = { coefficient };
+
+    ghost ranged = { unsigned _ _ };
 }
 
 // A diameter of a nozzle, 0.001 in: in a certificate and in a layout.
 pub struct NozzleDiameter;
 
-impl NozzleDiameter {
-    pub const LEAST: u16 = 100;
+impl Reading for NozzleDiameter {
+    type Value = u16;
 
-    pub const GREATEST: u16 = 1_000;
+    const LEAST: u16 = 100;
 
-    pub fn check(value: u16) -> bool
-        ensures { result ≡ nozzle_diameter value }
-    {
-        range::holds(
-            value as u64,
-            NozzleDiameter::LEAST as u64,
-            NozzleDiameter::GREATEST as u64,
-        )
-    }
+    const GREATEST: u16 = 1_000;
+
+    ghost LEAST = { least_nozzle_diameter };
+
+    ghost GREATEST = { greatest_nozzle_diameter };
+
+    ghost allowed = { nozzle_diameter };
+
+    ghost ranged = { unsigned _ _ };
 }
 
 // A field that the file format fixes at 0.
 pub struct Unused;
 
-impl Unused {
-    pub const LEAST: u16 = 0;
+impl Reading for Unused {
+    type Value = u16;
 
-    pub const GREATEST: u16 = 0;
+    const LEAST: u16 = 0;
 
-    pub fn check(value: u16) -> bool
-        ensures { result ≡ unused value }
-    {
-        range::holds(value as u64, Unused::LEAST as u64, Unused::GREATEST as u64)
-    }
+    const GREATEST: u16 = 0;
+
+    ghost LEAST = { 0 };
+
+    ghost GREATEST = { 0 };
+
+    ghost allowed = { unused };
+
+    ghost ranged = { unsigned _ _ };
 }

@@ -1,9 +1,9 @@
 // What a job's header says: its version, and how many certificates and runs follow.
 
-ghost use Rattle.std.specs.Prelude.{◌≡◌};
-ghost use Rattle.readings.specs.Ranges.{version, certificate_count, run_count};
+ghost use Rattle.readings.specs.Ranges.{least_version, greatest_version, version, greatest_certificate_count, certificate_count, least_run_count, greatest_run_count, run_count};
+ghost use Rattle.readings.specs.InOrder.{unsigned};
 
-use crate::range;
+use crate::range::Reading;
 
 // A job file's version. In the second a letter follows each serial number, and a meter that moved voids a run.
 #[derive(Clone, Copy)]
@@ -12,56 +12,56 @@ pub enum Version {
     Two,
 }
 
-impl Version {
-    pub const LEAST: u16 = 1;
+impl Reading for Version {
+    type Value = u16;
 
-    pub const GREATEST: u16 = 2;
+    const LEAST: u16 = 1;
 
-    pub fn check(value: u16) -> bool
-        ensures { result ≡ version value }
-    {
-        range::holds(
-            value as u64,
-            Version::LEAST as u64,
-            Version::GREATEST as u64,
-        )
-    }
+    const GREATEST: u16 = 2;
+
+    ghost LEAST = { least_version };
+
+    ghost GREATEST = { greatest_version };
+
+    ghost allowed = { version };
+
+    ghost ranged = { unsigned _ _ };
 }
 
 // How many certificates a job holds.
 pub struct CertificateCount;
 
-impl CertificateCount {
-    pub const LEAST: u16 = 0;
+impl Reading for CertificateCount {
+    type Value = u16;
 
-    pub const GREATEST: u16 = 64;
+    const LEAST: u16 = 0;
 
-    pub fn check(value: u16) -> bool
-        ensures { result ≡ certificate_count value }
-    {
-        range::holds(
-            value as u64,
-            CertificateCount::LEAST as u64,
-            CertificateCount::GREATEST as u64,
-        )
-    }
+    const GREATEST: u16 = 64;
+
+    ghost LEAST = { 0 };
+
+    ghost GREATEST = { greatest_certificate_count };
+
+    ghost allowed = { certificate_count };
+
+    ghost ranged = { unsigned _ _ };
 }
 
 // How many runs a job holds.
 pub struct RunCount;
 
-impl RunCount {
-    pub const LEAST: u16 = 1;
+impl Reading for RunCount {
+    type Value = u16;
 
-    pub const GREATEST: u16 = 16;
+    const LEAST: u16 = 1;
 
-    pub fn check(value: u16) -> bool
-        ensures { result ≡ run_count value }
-    {
-        range::holds(
-            value as u64,
-            RunCount::LEAST as u64,
-            RunCount::GREATEST as u64,
-        )
-    }
+    const GREATEST: u16 = 16;
+
+    ghost LEAST = { least_run_count };
+
+    ghost GREATEST = { greatest_run_count };
+
+    ghost allowed = { run_count };
+
+    ghost ranged = { unsigned _ _ };
 }

@@ -1,27 +1,29 @@
 // What a traverse layout is asked for. A side and a nozzle are those of a run and a certificate.
 
 ghost use Rattle.std.specs.Prelude.{◌≡◌};
-ghost use Rattle.readings.specs.Ranges.{layout_diameter, diameter_points};
+ghost use Rattle.readings.specs.Ranges.{least_layout_diameter, greatest_layout_diameter, layout_diameter, diameter_points};
+ghost use Rattle.readings.specs.InOrder.{unsigned};
 
 use crate::range;
+use crate::range::Reading;
 
 // Diameter of a round stack that is laid out, 0.1 in.
 pub struct LayoutDiameter;
 
-impl LayoutDiameter {
-    pub const LEAST: u16 = 120;
+impl Reading for LayoutDiameter {
+    type Value = u16;
 
-    pub const GREATEST: u16 = 9_999;
+    const LEAST: u16 = 120;
 
-    pub fn check(value: u16) -> bool
-        ensures { result ≡ layout_diameter value }
-    {
-        range::holds(
-            value as u64,
-            LayoutDiameter::LEAST as u64,
-            LayoutDiameter::GREATEST as u64,
-        )
-    }
+    const GREATEST: u16 = 9_999;
+
+    ghost LEAST = { least_layout_diameter };
+
+    ghost GREATEST = { greatest_layout_diameter };
+
+    ghost allowed = { layout_diameter };
+
+    ghost ranged = { unsigned _ _ };
 }
 
 // Points on a diameter: an even number.
@@ -35,14 +37,11 @@ impl DiameterPoints {
     pub fn check(value: u16) -> bool
         ensures { result ≡ diameter_points value }
     {
-        if value % 2 == 0 {
-            range::holds(
+        value % 2 == 0
+            && range::holds(
                 value as u64,
                 DiameterPoints::LEAST as u64,
                 DiameterPoints::GREATEST as u64,
             )
-        } else {
-            false
-        }
     }
 }

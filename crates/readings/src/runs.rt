@@ -1,80 +1,86 @@
 // The fields of a run's header.
 
 ghost use Rattle.std.specs.Prelude.{◌≡◌};
-ghost use Rattle.readings.specs.Ranges.{run_number, barometer, static_pressure, carbon_dioxide, first_reading, water, shape, side, blank_volume, rinse_volume, acetone_density, point_count, segment_count, weighing_count, oxygen, last_reading, second_side};
+ghost use Rattle.readings.specs.Ranges.{least_run_number, greatest_run_number, run_number, least_barometer, greatest_barometer, barometer, least_static_pressure, greatest_static_pressure, static_pressure, greatest_carbon_dioxide, carbon_dioxide, oxygen, greatest_first_reading, first_reading, last_reading, greatest_water, water, round_shape, rectangular_shape, shape, least_side, greatest_side, side, second_side, least_blank_volume, greatest_blank_volume, blank_volume, greatest_rinse_volume, rinse_volume, least_acetone_density, greatest_acetone_density, acetone_density, least_point_count, greatest_point_count, point_count, least_segment_count, greatest_segment_count, segment_count, greatest_weighing_count, weighing_count};
+ghost use Rattle.readings.specs.InOrder.{unsigned, signed};
 
 use crate::range;
+use crate::range::Reading;
 
 // A run's number.
 pub struct RunNumber;
 
-impl RunNumber {
-    pub const LEAST: u16 = 1;
+impl Reading for RunNumber {
+    type Value = u16;
 
-    pub const GREATEST: u16 = 999;
+    const LEAST: u16 = 1;
 
-    pub fn check(value: u16) -> bool
-        ensures { result ≡ run_number value }
-    {
-        range::holds(
-            value as u64,
-            RunNumber::LEAST as u64,
-            RunNumber::GREATEST as u64,
-        )
-    }
+    const GREATEST: u16 = 999;
+
+    ghost LEAST = { least_run_number };
+
+    ghost GREATEST = { greatest_run_number };
+
+    ghost allowed = { run_number };
+
+    ghost ranged = { unsigned _ _ };
 }
 
 // Barometric pressure Pb, 0.01 in Hg.
 pub struct Barometer;
 
-impl Barometer {
-    pub const LEAST: u16 = 2_000;
+impl Reading for Barometer {
+    type Value = u16;
 
-    pub const GREATEST: u16 = 3_200;
+    const LEAST: u16 = 2_000;
 
-    pub fn check(value: u16) -> bool
-        ensures { result ≡ barometer value }
-    {
-        range::holds(
-            value as u64,
-            Barometer::LEAST as u64,
-            Barometer::GREATEST as u64,
-        )
-    }
+    const GREATEST: u16 = 3_200;
+
+    ghost LEAST = { least_barometer };
+
+    ghost GREATEST = { greatest_barometer };
+
+    ghost allowed = { barometer };
+
+    ghost ranged = { unsigned _ _ };
 }
 
 // Stack static pressure Pg, 0.01 in water.
 pub struct StaticPressure;
 
-impl StaticPressure {
-    pub const LEAST: i16 = -3_000;
+impl Reading for StaticPressure {
+    type Value = i16;
 
-    pub const GREATEST: i16 = 3_000;
+    const LEAST: i16 = -3_000;
 
-    pub fn check(value: i16) -> bool
-        ensures { result ≡ static_pressure value }
-    {
-        range::holds_signed(value, StaticPressure::LEAST, StaticPressure::GREATEST)
-    }
+    const GREATEST: i16 = 3_000;
+
+    ghost LEAST = { least_static_pressure };
+
+    ghost GREATEST = { greatest_static_pressure };
+
+    ghost allowed = { static_pressure };
+
+    ghost ranged = { signed _ _ };
 }
 
 // CO2, 0.1 percent.
 pub struct CarbonDioxide;
 
-impl CarbonDioxide {
-    pub const LEAST: u16 = 0;
+impl Reading for CarbonDioxide {
+    type Value = u16;
 
-    pub const GREATEST: u16 = 1_000;
+    const LEAST: u16 = 0;
 
-    pub fn check(value: u16) -> bool
-        ensures { result ≡ carbon_dioxide value }
-    {
-        range::holds(
-            value as u64,
-            CarbonDioxide::LEAST as u64,
-            CarbonDioxide::GREATEST as u64,
-        )
-    }
+    const GREATEST: u16 = 1_000;
+
+    ghost LEAST = { 0 };
+
+    ghost GREATEST = { greatest_carbon_dioxide };
+
+    ghost allowed = { carbon_dioxide };
+
+    ghost ranged = { unsigned _ _ };
 }
 
 // O2, 0.1 percent: from 0 to what CO2 leaves of 1,000.
@@ -99,20 +105,20 @@ impl Oxygen {
 // The meter's first reading, 0.001 cubic ft.
 pub struct FirstReading;
 
-impl FirstReading {
-    pub const LEAST: u32 = 0;
+impl Reading for FirstReading {
+    type Value = u32;
 
-    pub const GREATEST: u32 = 999_999_999;
+    const LEAST: u32 = 0;
 
-    pub fn check(value: u32) -> bool
-        ensures { result ≡ first_reading value }
-    {
-        range::holds(
-            value as u64,
-            FirstReading::LEAST as u64,
-            FirstReading::GREATEST as u64,
-        )
-    }
+    const GREATEST: u32 = 999_999_999;
+
+    ghost LEAST = { 0 };
+
+    ghost GREATEST = { greatest_first_reading };
+
+    ghost allowed = { first_reading };
+
+    ghost ranged = { unsigned _ _ };
 }
 
 // The meter's last reading, 0.001 cubic ft: from the first reading to 999,999 above it.
@@ -137,16 +143,20 @@ impl LastReading {
 // Water collected, 0.1 ml.
 pub struct Water;
 
-impl Water {
-    pub const LEAST: u16 = 0;
+impl Reading for Water {
+    type Value = u16;
 
-    pub const GREATEST: u16 = 20_000;
+    const LEAST: u16 = 0;
 
-    pub fn check(value: u16) -> bool
-        ensures { result ≡ water value }
-    {
-        range::holds(value as u64, Water::LEAST as u64, Water::GREATEST as u64)
-    }
+    const GREATEST: u16 = 20_000;
+
+    ghost LEAST = { 0 };
+
+    ghost GREATEST = { greatest_water };
+
+    ghost allowed = { water };
+
+    ghost ranged = { unsigned _ _ };
 }
 
 // The shape of the stack: 1 round, 2 rectangular.
@@ -156,153 +166,166 @@ impl Shape {
     pub const ROUND: u8 = 1;
 
     pub const RECTANGULAR: u8 = 2;
+}
 
-    pub const LEAST: u8 = Shape::ROUND;
+impl Reading for Shape {
+    type Value = u8;
 
-    pub const GREATEST: u8 = Shape::RECTANGULAR;
+    const LEAST: u8 = Shape::ROUND;
 
-    pub fn check(value: u8) -> bool
-        ensures { result ≡ shape value }
-    {
-        range::holds(value as u64, Shape::LEAST as u64, Shape::GREATEST as u64)
-    }
+    const GREATEST: u8 = Shape::RECTANGULAR;
+
+    ghost LEAST = { round_shape };
+
+    ghost GREATEST = { rectangular_shape };
+
+    ghost allowed = { shape };
+
+    ghost ranged = { unsigned _ _ };
 }
 
 // A side of the stack, or its diameter, 0.1 in: in a run and in a layout.
 pub struct Side;
 
 impl Side {
-    pub const LEAST: u16 = 1;
-
-    pub const GREATEST: u16 = 9_999;
-
-    pub fn check(value: u16) -> bool
-        ensures { result ≡ side value }
-    {
-        range::holds(value as u64, Side::LEAST as u64, Side::GREATEST as u64)
-    }
-
     // The second side of a stack of this shape: a round stack has none, and it is written 0.
     pub fn check_second(value: u16, shape: u8) -> bool
         ensures { result ≡ second_side shape value }
     {
         if shape == Shape::ROUND {
-            return value == 0;
+            value == 0
+        } else {
+            Side::check(value)
         }
-        Side::check(value)
     }
+}
+
+impl Reading for Side {
+    type Value = u16;
+
+    const LEAST: u16 = 1;
+
+    const GREATEST: u16 = 9_999;
+
+    ghost LEAST = { least_side };
+
+    ghost GREATEST = { greatest_side };
+
+    ghost allowed = { side };
+
+    ghost ranged = { unsigned _ _ };
 }
 
 // Volume of the acetone blank, ml.
 pub struct BlankVolume;
 
-impl BlankVolume {
-    pub const LEAST: u16 = 1;
+impl Reading for BlankVolume {
+    type Value = u16;
 
-    pub const GREATEST: u16 = 500;
+    const LEAST: u16 = 1;
 
-    pub fn check(value: u16) -> bool
-        ensures { result ≡ blank_volume value }
-    {
-        range::holds(
-            value as u64,
-            BlankVolume::LEAST as u64,
-            BlankVolume::GREATEST as u64,
-        )
-    }
+    const GREATEST: u16 = 500;
+
+    ghost LEAST = { least_blank_volume };
+
+    ghost GREATEST = { greatest_blank_volume };
+
+    ghost allowed = { blank_volume };
+
+    ghost ranged = { unsigned _ _ };
 }
 
 // Volume of the acetone rinse, ml.
 pub struct RinseVolume;
 
-impl RinseVolume {
-    pub const LEAST: u16 = 0;
+impl Reading for RinseVolume {
+    type Value = u16;
 
-    pub const GREATEST: u16 = 1_000;
+    const LEAST: u16 = 0;
 
-    pub fn check(value: u16) -> bool
-        ensures { result ≡ rinse_volume value }
-    {
-        range::holds(
-            value as u64,
-            RinseVolume::LEAST as u64,
-            RinseVolume::GREATEST as u64,
-        )
-    }
+    const GREATEST: u16 = 1_000;
+
+    ghost LEAST = { 0 };
+
+    ghost GREATEST = { greatest_rinse_volume };
+
+    ghost allowed = { rinse_volume };
+
+    ghost ranged = { unsigned _ _ };
 }
 
 // Density of the acetone, 0.1 mg/ml.
 pub struct AcetoneDensity;
 
-impl AcetoneDensity {
-    pub const LEAST: u16 = 5_000;
+impl Reading for AcetoneDensity {
+    type Value = u16;
 
-    pub const GREATEST: u16 = 9_999;
+    const LEAST: u16 = 5_000;
 
-    pub fn check(value: u16) -> bool
-        ensures { result ≡ acetone_density value }
-    {
-        range::holds(
-            value as u64,
-            AcetoneDensity::LEAST as u64,
-            AcetoneDensity::GREATEST as u64,
-        )
-    }
+    const GREATEST: u16 = 9_999;
+
+    ghost LEAST = { least_acetone_density };
+
+    ghost GREATEST = { greatest_acetone_density };
+
+    ghost allowed = { acetone_density };
+
+    ghost ranged = { unsigned _ _ };
 }
 
 // How many points a run holds.
 pub struct PointCount;
 
-impl PointCount {
-    pub const LEAST: u8 = 1;
+impl Reading for PointCount {
+    type Value = u8;
 
-    pub const GREATEST: u8 = 64;
+    const LEAST: u8 = 1;
 
-    pub fn check(value: u8) -> bool
-        ensures { result ≡ point_count value }
-    {
-        range::holds(
-            value as u64,
-            PointCount::LEAST as u64,
-            PointCount::GREATEST as u64,
-        )
-    }
+    const GREATEST: u8 = 64;
+
+    ghost LEAST = { least_point_count };
+
+    ghost GREATEST = { greatest_point_count };
+
+    ghost allowed = { point_count };
+
+    ghost ranged = { unsigned _ _ };
 }
 
 // How many segments a run holds.
 pub struct SegmentCount;
 
-impl SegmentCount {
-    pub const LEAST: u8 = 1;
+impl Reading for SegmentCount {
+    type Value = u8;
 
-    pub const GREATEST: u8 = 16;
+    const LEAST: u8 = 1;
 
-    pub fn check(value: u8) -> bool
-        ensures { result ≡ segment_count value }
-    {
-        range::holds(
-            value as u64,
-            SegmentCount::LEAST as u64,
-            SegmentCount::GREATEST as u64,
-        )
-    }
+    const GREATEST: u8 = 16;
+
+    ghost LEAST = { least_segment_count };
+
+    ghost GREATEST = { greatest_segment_count };
+
+    ghost allowed = { segment_count };
+
+    ghost ranged = { unsigned _ _ };
 }
 
 // How many weighings a run holds.
 pub struct WeighingCount;
 
-impl WeighingCount {
-    pub const LEAST: u8 = 0;
+impl Reading for WeighingCount {
+    type Value = u8;
 
-    pub const GREATEST: u8 = 8;
+    const LEAST: u8 = 0;
 
-    pub fn check(value: u8) -> bool
-        ensures { result ≡ weighing_count value }
-    {
-        range::holds(
-            value as u64,
-            WeighingCount::LEAST as u64,
-            WeighingCount::GREATEST as u64,
-        )
-    }
+    const GREATEST: u8 = 8;
+
+    ghost LEAST = { 0 };
+
+    ghost GREATEST = { greatest_weighing_count };
+
+    ghost allowed = { weighing_count };
+
+    ghost ranged = { unsigned _ _ };
 }

@@ -1,9 +1,9 @@
 // The readings of a weighing.
 
-ghost use Rattle.std.specs.Prelude.{◌≡◌};
-ghost use Rattle.readings.specs.Ranges.{weighing_kind, weight};
+ghost use Rattle.readings.specs.Ranges.{filter_kind, rinse_kind, weighing_kind, greatest_weight, weight};
+ghost use Rattle.readings.specs.InOrder.{unsigned};
 
-use crate::range;
+use crate::range::Reading;
 
 // What was weighed.
 pub struct WeighingKind;
@@ -12,33 +12,39 @@ impl WeighingKind {
     pub const FILTER: u8 = 1;
 
     pub const RINSE: u8 = 2;
+}
 
-    pub const LEAST: u8 = WeighingKind::FILTER;
+impl Reading for WeighingKind {
+    type Value = u8;
 
-    pub const GREATEST: u8 = WeighingKind::RINSE;
+    const LEAST: u8 = WeighingKind::FILTER;
 
-    pub fn check(value: u8) -> bool
-        ensures { result ≡ weighing_kind value }
-    {
-        range::holds(
-            value as u64,
-            WeighingKind::LEAST as u64,
-            WeighingKind::GREATEST as u64,
-        )
-    }
+    const GREATEST: u8 = WeighingKind::RINSE;
+
+    ghost LEAST = { filter_kind };
+
+    ghost GREATEST = { rinse_kind };
+
+    ghost allowed = { weighing_kind };
+
+    ghost ranged = { unsigned _ _ };
 }
 
 // A tare or a final weight, 0.1 mg.
 pub struct Weight;
 
-impl Weight {
-    pub const LEAST: u32 = 0;
+impl Reading for Weight {
+    type Value = u32;
 
-    pub const GREATEST: u32 = 4_000_000;
+    const LEAST: u32 = 0;
 
-    pub fn check(value: u32) -> bool
-        ensures { result ≡ weight value }
-    {
-        range::holds(value as u64, Weight::LEAST as u64, Weight::GREATEST as u64)
-    }
+    const GREATEST: u32 = 4_000_000;
+
+    ghost LEAST = { 0 };
+
+    ghost GREATEST = { greatest_weight };
+
+    ghost allowed = { weight };
+
+    ghost ranged = { unsigned _ _ };
 }

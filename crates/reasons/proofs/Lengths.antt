@@ -2,28 +2,26 @@
 use Prim.Native.Nat.{ℕ, ◌*◌, ◌≤◌}
 use mathlib.Core.Path.{◌≡◌}
 use mathlib.Core.Bool.{Bool, true, false}
-use mathlib.Core.List.{[], ◌∷◌, ◌++◌}
 use native.Mathlib.Omega.{arith}
 use lib.Dec.{eqb}
 use lib.IntN.{ℤ}
 use lib.ListN.{length, length-append}
 use Rattle.readings.specs.Ranges.{meter, pitot}
-use Rattle.output.specs.Bytes.{le, signed_bits}
+use Rattle.output.specs.Bytes.{signed_bits}
 use Rattle.output.proofs.Bytes.{length_le}
-use Rattle.characters.specs.Numbers.{decimal, signed_decimal}
 use Rattle.characters.specs.Words.{spelled}
 use Rattle.characters.proofs.Decimals.{decimal_short, signed_short}
 use Rattle.characters.proofs.Texts.{either_short}
-use Rattle.text.specs.Sheets.{newline}
 use Rattle.grounds.specs.declared.comparison.Way.{Way}
 use Rattle.grounds.specs.declared.comparison.Way.TheVariants.{Below, Above, Same, Differs}
 use Rattle.grounds.specs.Showing.{Condition}
+use Rattle.dates.specs.declared.Side.{Side}
+use Rattle.dates.specs.declared.Side.TheVariants.{Before, After}
 use Rattle.dates.specs.declared.Day.{Day}
 use Rattle.dates.specs.declared.Day.TheVariants.{Unused, On, NoneSoDated}
-use Rattle.dates.specs.Dates.{before, entries_on}
-use Rattle.wording.specs.Wording.{words_of}
+use Rattle.dates.specs.Dates.{entries_on}
 use Rattle.wording.proofs.Lengths.{words_short}
-use Rattle.reasons.specs.Bytes.{way_number, condition_bytes, day_bytes}
+use Rattle.reasons.specs.Bytes.{condition_bytes, found_bytes, day_bytes}
 use Rattle.reasons.specs.Text.{way_text, number_text, meaning_text, condition_text, kind_text, side_text, day_text}
 
 -- As bytes
@@ -31,19 +29,10 @@ use Rattle.reasons.specs.Text.{way_text, number_text, meaning_text, condition_te
 pub condition_bytes_length : (c : Condition) → length (condition_bytes c) ≡ 34
 unfolding condition_bytes
 condition_bytes_length c =
-    let head = c.which ∷ way_number c.way ∷ [] in
-    let left = le 8 (signed_bits c.left) in
-    let right = le 8 (signed_bits c.right) in
-    let remainder = le 8 (signed_bits c.remainder) in
-    let limit = le 8 (signed_bits c.limit) in
-    let one = length-append head left in
-    let two = length-append (head ++ left) right in
-    let three = length-append (head ++ left ++ right) remainder in
-    let four = length-append (head ++ left ++ right ++ remainder) limit in
-    omega (arith, one, two, three, four, length_le 8 (signed_bits c.left), length_le 8 (signed_bits c.right), length_le 8 (signed_bits c.remainder), length_le 8 (signed_bits c.limit))
+    simp length-append (omega (arith, length_le 8 (signed_bits c.left), length_le 8 (signed_bits c.right), length_le 8 (signed_bits c.remainder), length_le 8 (signed_bits c.limit)))
 
-pub day_bytes_length : (kind side : ℕ) (d : Day) → length (day_bytes kind side d) ≡ 5 * entries_on d
-unfolding day_bytes entries_on
+pub day_bytes_length : (kind : ℕ) (side : Side) (d : Day) → length (day_bytes kind side d) ≡ 5 * entries_on d
+unfolding day_bytes found_bytes entries_on
 day_bytes_length kind side Unused = omega arith
 day_bytes_length kind side (On day) = omega (arith, length_le 2 day)
 day_bytes_length kind side NoneSoDated = omega (arith, length_le 2 0)
@@ -60,56 +49,28 @@ way_short Differs = omega arith
 number_short : (quotient : Bool) (n remainder : ℤ) → length (number_text quotient n remainder) ≤ 53
 unfolding number_text spelled
 number_short false n remainder = omega (arith, signed_short n)
-number_short true n remainder =
-    let word = spelled " REMAINDER " in
-    let one = length-append (signed_decimal n) word in
-    let two = length-append (signed_decimal n ++ word) (signed_decimal remainder) in
-    omega (arith, one, two, signed_short n, signed_short remainder)
+number_short true n remainder = simp length-append (omega (arith, signed_short n, signed_short remainder))
 
 meaning_short : (rule which : ℕ) (round : Bool) → length (meaning_text rule which round) ≤ 131
 unfolding meaning_text spelled
-meaning_short rule which round =
-    let words = words_of rule which round in
-    let one = length-append (spelled "  ") words in
-    let two = length-append (spelled "  " ++ words) newline in
-    omega (arith, one, two, words_short rule which round)
+meaning_short rule which round = simp length-append (omega (arith, words_short rule which round))
 
 pub condition_text_short : (rule : ℕ) (round : Bool) (c : Condition) → length (condition_text rule round c) ≤ 257
 unfolding condition_text spelled
 condition_text_short rule round c =
-    let word = spelled "  COMPARED " in
-    let left = number_text c.quotient c.left c.remainder in
-    let way = way_text c.way in
-    let right = number_text c.quotient c.right c.limit in
-    let meaning = meaning_text rule c.which round in
-    let one = length-append word left in
-    let two = length-append (word ++ left) way in
-    let three = length-append (word ++ left ++ way) right in
-    let four = length-append (word ++ left ++ way ++ right) meaning in
-    omega (arith, one, two, three, four, number_short c.quotient c.left c.remainder, way_short c.way, number_short c.quotient c.right c.limit, meaning_short rule c.which round)
+    simp length-append (omega (arith, number_short c.quotient c.left c.remainder, way_short c.way, number_short c.quotient c.right c.limit, meaning_short rule c.which round))
 
 kind_short : (kind : ℕ) → length (kind_text kind) ≤ 7
 unfolding kind_text spelled
 kind_short kind = either_short (eqb kind meter) _ _ 7 (omega arith) (either_short (eqb kind pitot) _ _ 7 (omega arith) (omega arith))
 
-side_short : (side : ℕ) → length (side_text side) ≤ 7
+side_short : (side : Side) → length (side_text side) ≤ 7
 unfolding side_text spelled
-side_short side = either_short (eqb side before) _ _ 7 (omega arith) (omega arith)
+side_short Before = omega arith
+side_short After = omega arith
 
-pub day_text_short : (kind side : ℕ) (d : Day) → length (day_text kind side d) ≤ 49
+pub day_text_short : (kind : ℕ) (side : Side) (d : Day) → length (day_text kind side d) ≤ 49
 unfolding day_text spelled
 day_text_short kind side Unused = omega arith
-day_text_short kind side (On day) =
-    let word = spelled "  CERTIFICATE " in
-    let one = length-append word (kind_text kind) in
-    let two = length-append (word ++ kind_text kind) (side_text side) in
-    let three = length-append (word ++ kind_text kind ++ side_text side) (decimal day) in
-    let four = length-append (word ++ kind_text kind ++ side_text side ++ decimal day) newline in
-    omega (arith, one, two, three, four, kind_short kind, side_short side, decimal_short day)
-day_text_short kind side NoneSoDated =
-    let word = spelled "  CERTIFICATE " in
-    let one = length-append word (kind_text kind) in
-    let two = length-append (word ++ kind_text kind) (side_text side) in
-    let three = length-append (word ++ kind_text kind ++ side_text side) (spelled "NONE") in
-    let four = length-append (word ++ kind_text kind ++ side_text side ++ spelled "NONE") newline in
-    omega (arith, one, two, three, four, kind_short kind, side_short side)
+day_text_short kind side (On day) = simp length-append (omega (arith, kind_short kind, side_short side, decimal_short day))
+day_text_short kind side NoneSoDated = simp length-append (omega (arith, kind_short kind, side_short side))

@@ -7,9 +7,10 @@ use Rattle.text.specs.Sheets.{newline}
 use Rattle.grounds.specs.declared.comparison.Way.{Way}
 use Rattle.grounds.specs.declared.comparison.Way.TheVariants.{Below, Above, Same, Differs}
 use Rattle.grounds.specs.Showing.{Condition}
+use Rattle.dates.specs.declared.Side.{Side}
+use Rattle.dates.specs.declared.Side.TheVariants.{Before, After}
 use Rattle.dates.specs.declared.Day.{Day}
 use Rattle.dates.specs.declared.Day.TheVariants.{Unused, On, NoneSoDated}
-use Rattle.dates.specs.Dates.{before}
 use Rattle.wording.specs.Wording.{words_of}
 
 -- the word of a way
@@ -39,11 +40,12 @@ unfoldable pub kind_text : ℕ → List ℕ
 kind_text kind = cond (eqb kind meter) (spelled "METER ") (cond (eqb kind pitot) (spelled "PITOT ") (spelled "NOZZLE "))
 
 -- the word of a side
-unfoldable pub side_text : ℕ → List ℕ
-side_text side = cond (eqb side before) (spelled "BEFORE ") (spelled "AFTER ")
+unfoldable pub side_text : Side → List ℕ
+side_text Before = spelled "BEFORE "
+side_text After = spelled "AFTER "
 
 -- a certificate day: kind, side, and the day or that there is none; nothing where none is used
-unfoldable pub day_text : ℕ → ℕ → Day → List ℕ
+unfoldable pub day_text : ℕ → Side → Day → List ℕ
 day_text kind side Unused = []
 day_text kind side (On day) = spelled "  CERTIFICATE " ++ kind_text kind ++ side_text side ++ decimal day ++ newline
 day_text kind side NoneSoDated = spelled "  CERTIFICATE " ++ kind_text kind ++ side_text side ++ spelled "NONE" ++ newline

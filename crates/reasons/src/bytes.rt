@@ -2,12 +2,16 @@
 
 ghost use Rattle.std.specs.Prelude.{◌≡◌, [], ◌∷◌, ◌++◌};
 ghost use Rattle.output.specs.Bytes.{le};
+ghost use Rattle.dates.specs.Side.{side_number};
 ghost use Rattle.characters.specs.Writing.{Room, Wrote};
-ghost use Rattle.reasons.specs.Bytes.{way_number};
+ghost use Rattle.reasons.specs.Bytes.{way_number, found_bytes};
 
+use characters::Writer;
+use dates::Side;
 use grounds::comparison::Way;
-use output::{put_byte, put_number};
 
+// A way as its number.
+#[tactic(auto, unfolding(crate::specs::Bytes::way_number))]
 fn way_number(way: Way) -> u8
     ensures { result ≡ way_number way }
 {
@@ -19,60 +23,58 @@ fn way_number(way: Way) -> u8
     }
 }
 
-// A single byte.
-fn put_small(out: &mut [u8], at: usize, byte: u8) -> usize
-    requires { Room out.old at (byte ∷ []) }
-    ensures { Wrote out.old at (byte ∷ []) out.new result }
-{
-    put_byte(out, at, byte);
-    at + 1
-}
-
-// A number of 2 bytes or of 8.
-fn put_wide(out: &mut [u8], at: usize, width: usize, value: u64) -> usize
-    requires { Room out.old at (le width value) }
-    ensures { Wrote out.old at (le width value) out.new result }
-{
-    put_number(out, at, width, value);
-    at + width
-}
-
 // Two bytes.
-pub fn put_pair(out: &mut [u8], at: usize, first: u8, second: u8) -> usize
-    requires { Room out.old at (first ∷ second ∷ []) }
-    ensures { Wrote out.old at (first ∷ second ∷ []) out.new result }
+pub fn put_pair(to: &mut Writer<'_>, first: u8, second: u8)
+    requires { Room to.old (first ∷ second ∷ []) }
+    ensures { Wrote to.old (first ∷ second ∷ []) to.new }
 {
-    let next = put_small(out, at, first);
-    put_small(out, next, second)
+    to.byte(first);
+    to.byte(second);
 }
 
 // A condition: which of its rule's, the way, and the bits of four numbers.
 pub fn put_condition(
-    out: &mut [u8],
-    at: usize,
+    to: &mut Writer<'_>,
     which: u8,
     way: Way,
     left: u64,
     right: u64,
     remainder: u64,
     limit: u64,
-) -> usize
-    requires { Room out.old at ((which ∷ way_number way ∷ []) ++ le 8 left ++ le 8 right ++ le 8 remainder ++ le 8 limit) }
-    ensures { Wrote out.old at ((which ∷ way_number way ∷ []) ++ le 8 left ++ le 8 right ++ le 8 remainder ++ le 8 limit) out.new result }
+)
+    requires { Room to.old ((which ∷ way_number way ∷ []) ++ le 8 left ++ le 8 right ++ le 8 remainder ++ le 8 limit) }
+    ensures { Wrote to.old ((which ∷ way_number way ∷ []) ++ le 8 left ++ le 8 right ++ le 8 remainder ++ le 8 limit) to.new }
 {
-    let a = put_pair(out, at, which, way_number(way));
-    let b = put_wide(out, a, 8, left);
-    let c = put_wide(out, b, 8, right);
-    let d = put_wide(out, c, 8, remainder);
-    put_wide(out, d, 8, limit)
+    put_pair(to, which, way_number(way));
+    to.number(8, left);
+    to.number(8, right);
+    to.number(8, remainder);
+    to.number(8, limit);
+}
+
+// Whether a day is found, and the day.
+#[tactic(auto, unfolding(crate::specs::Bytes::found_bytes))]
+fn put_found(to: &mut Writer<'_>, day: Option<u16>)
+    requires { Room to.old (found_bytes day) }
+    ensures { Wrote to.old (found_bytes day) to.new }
+{
+    match day {
+        Some(day) => {
+            to.byte(1);
+            to.number(2, day as u64);
+        }
+        None => {
+            to.byte(0);
+            to.number(2, 0);
+        }
+    }
 }
 
 // A certificate day: kind, side, whether there is one, and the day.
-pub fn put_day(out: &mut [u8], at: usize, kind: u8, side: u8, found: u8, day: u16) -> usize
-    requires { Room out.old at ((kind ∷ side ∷ []) ++ (found ∷ []) ++ le 2 day) }
-    ensures { Wrote out.old at ((kind ∷ side ∷ []) ++ (found ∷ []) ++ le 2 day) out.new result }
+pub fn put_day(to: &mut Writer<'_>, kind: u8, side: Side, day: Option<u16>)
+    requires { Room to.old ((kind ∷ side_number side ∷ []) ++ found_bytes day) }
+    ensures { Wrote to.old ((kind ∷ side_number side ∷ []) ++ found_bytes day) to.new }
 {
-    let a = put_pair(out, at, kind, side);
-    let b = put_small(out, a, found);
-    put_wide(out, b, 2, day as u64)
+    put_pair(to, kind, side.number());
+    put_found(to, day);
 }

@@ -1,5 +1,5 @@
-// A condition of a rule and a certificate day, each as bytes and as text. Relies on the writers of `output` and `characters`, and on the
-// words of the rules.
+// A condition of a rule and a certificate day, each as bytes and as text. Relies on the writer of `characters`, and on the words of the
+// rules.
 
 #![tactic(auto)]
 

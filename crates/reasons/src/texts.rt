@@ -6,132 +6,134 @@ ghost use Rattle.grounds.specs.Showing.{two_numbers, a_quotient, two_signed};
 ghost use Rattle.characters.specs.Writing.{Room, Wrote};
 ghost use Rattle.reasons.specs.Text.{way_text, number_text, meaning_text, condition_text, kind_text, side_text, day_text};
 
-use characters::{put_decimal, put_signed, put_word};
-use dates::BEFORE;
+use characters::Writer;
+use dates::Side;
 use grounds::comparison::{Comparison, ExactComparison, Way};
 use readings::certificates::CertificateKind;
 use wording::put_words;
 
-fn put_way(out: &mut [u8], at: usize, way: Way) -> usize
-    requires { Room out.old at (way_text way) }
-    ensures { Wrote out.old at (way_text way) out.new result }
+// A way, as a word between its two numbers.
+#[tactic(auto, unfolding(crate::specs::Text::way_text, characters::specs::Words::spelled))]
+fn put_way(to: &mut Writer<'_>, way: Way)
+    requires { Room to.old (way_text way) }
+    ensures { Wrote to.old (way_text way) to.new }
 {
     match way {
-        Way::Below => put_word(out, at, b" BELOW "),
-        Way::Above => put_word(out, at, b" ABOVE "),
-        Way::Same => put_word(out, at, b" EQUAL "),
-        Way::Differs => put_word(out, at, b" DIFFERS "),
+        Way::Below => to.word(b" BELOW "),
+        Way::Above => to.word(b" ABOVE "),
+        Way::Same => to.word(b" EQUAL "),
+        Way::Differs => to.word(b" DIFFERS "),
     }
 }
 
 // A quotient and its remainder, or their limits.
-fn put_quotient(out: &mut [u8], at: usize, n: u64, remainder: u64) -> usize
-    requires { Room out.old at (number_text true (pos n) (pos remainder)) }
-    ensures { Wrote out.old at (number_text true (pos n) (pos remainder)) out.new result }
+#[tactic(auto, unfolding(crate::specs::Text::number_text, characters::specs::Numbers::signed_decimal, characters::specs::Words::spelled))]
+fn put_quotient(to: &mut Writer<'_>, n: u64, remainder: u64)
+    requires { Room to.old (number_text true (pos n) (pos remainder)) }
+    ensures { Wrote to.old (number_text true (pos n) (pos remainder)) to.new }
 {
-    let a = put_decimal(out, at, n);
-    let b = put_word(out, a, b" REMAINDER ");
-    put_decimal(out, b, remainder)
+    to.decimal(n);
+    to.word(b" REMAINDER ");
+    to.decimal(remainder);
 }
 
 // What the two numbers are, and the end of the line.
-fn put_meaning(out: &mut [u8], at: usize, rule: u8, which: u8, round: bool) -> usize
-    requires { Room out.old at (meaning_text rule which round) }
-    ensures { Wrote out.old at (meaning_text rule which round) out.new result }
+#[tactic(auto, unfolding(crate::specs::Text::meaning_text, characters::specs::Words::spelled))]
+fn put_meaning(to: &mut Writer<'_>, rule: u8, which: u8, round: bool)
+    requires { Room to.old (meaning_text rule which round) }
+    ensures { Wrote to.old (meaning_text rule which round) to.new }
 {
-    let a = put_word(out, at, b"  ");
-    let b = put_words(out, a, rule, which, round);
-    put_word(out, b, b"\n")
+    to.word(b"  ");
+    put_words(to, rule, which, round);
+    to.word(b"\n");
 }
 
 // A condition of two whole numbers.
-pub fn put_numbers(
-    out: &mut [u8],
-    at: usize,
-    rule: u8,
-    round: bool,
-    which: u8,
-    c: Comparison,
-) -> usize
-    requires { Room out.old at (condition_text rule round (two_numbers which c)) }
-    ensures { Wrote out.old at (condition_text rule round (two_numbers which c)) out.new result }
+#[tactic(auto, unfolding(crate::specs::Text::condition_text, crate::specs::Text::number_text, characters::specs::Numbers::signed_decimal, characters::specs::Words::spelled))]
+pub fn put_numbers(to: &mut Writer<'_>, rule: u8, round: bool, which: u8, c: Comparison)
+    requires { Room to.old (condition_text rule round (two_numbers which c)) }
+    ensures { Wrote to.old (condition_text rule round (two_numbers which c)) to.new }
 {
-    let way = c.way;
-    let a = put_word(out, at, b"  COMPARED ");
-    let left = put_decimal(out, a, c.left);
-    let middle = put_way(out, left, way);
-    let right = put_decimal(out, middle, c.right);
-    put_meaning(out, right, rule, which, round)
+    to.word(b"  COMPARED ");
+    to.decimal(c.left);
+    put_way(to, c.way);
+    to.decimal(c.right);
+    put_meaning(to, rule, which, round);
 }
 
 // A condition of a quotient with its remainder.
-pub fn put_exactly(out: &mut [u8], at: usize, rule: u8, round: bool, c: ExactComparison) -> usize
-    requires { Room out.old at (condition_text rule round (a_quotient c)) }
-    ensures { Wrote out.old at (condition_text rule round (a_quotient c)) out.new result }
+#[tactic(auto, unfolding(crate::specs::Text::condition_text, characters::specs::Words::spelled))]
+pub fn put_exactly(to: &mut Writer<'_>, rule: u8, round: bool, c: ExactComparison)
+    requires { Room to.old (condition_text rule round (a_quotient c)) }
+    ensures { Wrote to.old (condition_text rule round (a_quotient c)) to.new }
 {
-    let way = c.way;
-    let a = put_word(out, at, b"  COMPARED ");
-    let left = put_quotient(out, a, c.quotient, c.remainder);
-    let middle = put_way(out, left, way);
-    let right = put_quotient(out, middle, c.limit, 0);
-    put_meaning(out, right, rule, 1, round)
+    to.word(b"  COMPARED ");
+    put_quotient(to, c.quotient, c.remainder);
+    put_way(to, c.way);
+    put_quotient(to, c.limit, 0);
+    put_meaning(to, rule, 1, round);
 }
 
 // A condition of two signed numbers, the left one below the right one.
-pub fn put_below(out: &mut [u8], at: usize, rule: u8, round: bool, left: i64, right: i64) -> usize
-    requires { Room out.old at (condition_text rule round (two_signed left right)) }
-    ensures { Wrote out.old at (condition_text rule round (two_signed left right)) out.new result }
+#[tactic(auto, unfolding(crate::specs::Text::condition_text, crate::specs::Text::number_text, characters::specs::Words::spelled))]
+pub fn put_below(to: &mut Writer<'_>, rule: u8, round: bool, left: i64, right: i64)
+    requires { Room to.old (condition_text rule round (two_signed left right)) }
+    ensures { Wrote to.old (condition_text rule round (two_signed left right)) to.new }
 {
-    let a = put_word(out, at, b"  COMPARED ");
-    let b = put_signed(out, a, left);
-    let c = put_way(out, b, Way::Below);
-    let d = put_signed(out, c, right);
-    put_meaning(out, d, rule, 1, round)
+    to.word(b"  COMPARED ");
+    to.signed(left);
+    put_way(to, Way::Below);
+    to.signed(right);
+    put_meaning(to, rule, 1, round);
 }
 
-fn put_kind(out: &mut [u8], at: usize, kind: u8) -> usize
-    requires { Room out.old at (kind_text kind) }
-    ensures { Wrote out.old at (kind_text kind) out.new result }
+#[tactic(auto, unfolding(crate::specs::Text::kind_text, characters::specs::Words::spelled))]
+fn put_kind(to: &mut Writer<'_>, kind: u8)
+    requires { Room to.old (kind_text kind) }
+    ensures { Wrote to.old (kind_text kind) to.new }
 {
     if kind == CertificateKind::METER {
-        return put_word(out, at, b"METER ");
+        to.word(b"METER ");
+    } else if kind == CertificateKind::PITOT {
+        to.word(b"PITOT ");
+    } else {
+        to.word(b"NOZZLE ");
     }
-    if kind == CertificateKind::PITOT {
-        return put_word(out, at, b"PITOT ");
-    }
-    put_word(out, at, b"NOZZLE ")
 }
 
-fn put_side(out: &mut [u8], at: usize, side: u8) -> usize
-    requires { Room out.old at (side_text side) }
-    ensures { Wrote out.old at (side_text side) out.new result }
+#[tactic(auto, unfolding(crate::specs::Text::side_text, characters::specs::Words::spelled))]
+fn put_side(to: &mut Writer<'_>, side: Side)
+    requires { Room to.old (side_text side) }
+    ensures { Wrote to.old (side_text side) to.new }
 {
-    if side == BEFORE {
-        return put_word(out, at, b"BEFORE ");
+    match side {
+        Side::Before => to.word(b"BEFORE "),
+        Side::After => to.word(b"AFTER "),
     }
-    put_word(out, at, b"AFTER ")
 }
 
 // The day of the nearest certificate.
-pub fn put_dated(out: &mut [u8], at: usize, kind: u8, side: u8, day: u16) -> usize
-    requires { Room out.old at (day_text kind side (On day)) }
-    ensures { Wrote out.old at (day_text kind side (On day)) out.new result }
+#[tactic(auto, unfolding(crate::specs::Text::day_text, characters::specs::Words::spelled))]
+pub fn put_dated(to: &mut Writer<'_>, kind: u8, side: Side, day: u16)
+    requires { Room to.old (day_text kind side (On day)) }
+    ensures { Wrote to.old (day_text kind side (On day)) to.new }
 {
-    let a = put_word(out, at, b"  CERTIFICATE ");
-    let b = put_kind(out, a, kind);
-    let c = put_side(out, b, side);
-    let d = put_decimal(out, c, day as u64);
-    put_word(out, d, b"\n")
+    to.word(b"  CERTIFICATE ");
+    put_kind(to, kind);
+    put_side(to, side);
+    to.decimal(day as u64);
+    to.word(b"\n");
 }
 
 // That no certificate is so dated.
-pub fn put_undated(out: &mut [u8], at: usize, kind: u8, side: u8) -> usize
-    requires { Room out.old at (day_text kind side NoneSoDated) }
-    ensures { Wrote out.old at (day_text kind side NoneSoDated) out.new result }
+#[tactic(auto, unfolding(crate::specs::Text::day_text, characters::specs::Words::spelled))]
+pub fn put_undated(to: &mut Writer<'_>, kind: u8, side: Side)
+    requires { Room to.old (day_text kind side NoneSoDated) }
+    ensures { Wrote to.old (day_text kind side NoneSoDated) to.new }
 {
-    let a = put_word(out, at, b"  CERTIFICATE ");
-    let b = put_kind(out, a, kind);
-    let c = put_side(out, b, side);
-    let d = put_word(out, c, b"NONE");
-    put_word(out, d, b"\n")
+    to.word(b"  CERTIFICATE ");
+    put_kind(to, kind);
+    put_side(to, side);
+    to.word(b"NONE");
+    to.word(b"\n");
 }

@@ -1,11 +1,28 @@
--- Two identities pass the comparison exactly when they are equal.
+-- The comparison of two identities: the program's `==` is `same_identity`, and it is passed exactly when they are equal.
 use mathlib.Core.Path.{◌≡◌, refl}
-use mathlib.Core.Bool.{true}
+use mathlib.Core.Bool.{Bool, true, false, ◌&&◌}
 use borrow.Author.Tests.{eqb-true, eq-eqb}
 use lib.Dec.{eqb}
 use Rattle.readings.proofs.Ranges.{both_left, both_right}
 use Rattle.records.specs.declared.Identity.{Identity}
+use Rattle.records.specs.contracts.IdentityPartialEq.TheImpl as derived
 use Rattle.records.specs.Records.{same_identity}
+
+-- five tests in another order
+reordered : (first second third serial letter : Bool) → ((first && (second && third)) && (serial && letter)) ≡ (serial && (first && (second && (third && letter))))
+reordered true true true serial letter = refl
+reordered true true false true letter = refl
+reordered true true false false letter = refl
+reordered true false third true letter = refl
+reordered true false third false letter = refl
+reordered false second third true letter = refl
+reordered false second third false letter = refl
+
+-- the derived `==` compares the same five parts
+pub derived_same : (a b : Identity) → (derived.ghosts).eq a b ≡ same_identity a b
+unfolding same_identity
+derived_same a b =
+    reordered (eqb a.maker.first b.maker.first) (eqb a.maker.second b.maker.second) (eqb a.maker.third b.maker.third) (eqb a.serial b.serial) (eqb a.letter b.letter)
 
 pub same_equal : (a b : Identity) → same_identity a b ≡ true → a ≡ b
 unfolding same_identity

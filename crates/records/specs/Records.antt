@@ -14,23 +14,27 @@ same_identity a b =
     && (eqb a.maker.second b.maker.second
     && (eqb a.maker.third b.maker.third && eqb a.letter b.letter)))
 
--- what stands past the last point, segment and weighing
+-- what stands past the last point
 abbrev pub no_point : Point
 no_point = record { seconds = 0; head = 0; orifice = 0; stack = pos 0; inlet = pos 0; outlet = pos 0 }
 
+-- past the last segment
 abbrev pub no_segment : Segment
 no_segment = record { seconds = 0; leak = 0 }
 
+-- past the last weighing
 abbrev pub no_weighing : Weighing
 no_weighing = record { kind = 0; tare = 0; first = 0; second = 0 }
 
--- a run's point, segment and weighing by index from 0
+-- a run's point by index from 0
 abbrev pub point_of : Run → ℕ → Point
 point_of r i = get_or r.points i no_point
 
+-- its segment
 abbrev pub segment_of : Run → ℕ → Segment
 segment_of r i = get_or r.segments i no_segment
 
+-- its weighing
 abbrev pub weighing_of : Run → ℕ → Weighing
 weighing_of r i = get_or r.weighings i no_weighing
 

@@ -20,6 +20,7 @@ worked_certificates =
     ∷ record { kind = nozzle; identity = abc 2; day = 8990; first = 250; second = 250; third = 250 }
     ∷ []
 
+-- each of its points
 abbrev pub worked_point : Point
 worked_point = record { seconds = 450; head = 500; orifice = 200; stack = pos 2000; inlet = pos 800; outlet = pos 800 }
 

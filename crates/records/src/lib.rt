@@ -3,46 +3,24 @@
 
 #![tactic(auto)]
 
-ghost use Rattle.std.specs.Prelude.{◌≡◌};
-ghost use Rattle.records.specs.Records.{same_identity};
-
+use readings::range::Reading;
 use readings::runs::{PointCount, SegmentCount, WeighingCount};
 
 // A maker: three letters.
-#[derive(Clone, Copy)]
+#[derive(Clone, Copy, PartialEq, Eq)]
 pub struct Maker {
     pub first: u8,
     pub second: u8,
     pub third: u8,
 }
 
-// What tells one meter, pitot tube or nozzle from another of its kind. A serial number alone does not; a rebuilt one keeps it and
-// gets another letter, 0 standing for none.
-#[derive(Clone, Copy)]
+// What tells one meter, pitot tube or nozzle from another of its kind, compared with `==`. A serial number alone does not; a rebuilt one
+// keeps it and gets another letter, 0 standing for none.
+#[derive(Clone, Copy, PartialEq, Eq)]
 pub struct Identity {
     pub maker: Maker,
     pub serial: u32,
     pub letter: u8,
-}
-
-impl Identity {
-    pub fn same(self, other: Identity) -> bool
-        ensures { result ≡ same_identity self other }
-    {
-        if self.serial != other.serial {
-            return false;
-        }
-        if self.maker.first != other.maker.first {
-            return false;
-        }
-        if self.maker.second != other.maker.second {
-            return false;
-        }
-        if self.maker.third != other.maker.third {
-            return false;
-        }
-        self.letter == other.letter
-    }
 }
 
 // A certificate: the values are a meter's factor, a pitot tube's coefficient, or a nozzle's three diameters.

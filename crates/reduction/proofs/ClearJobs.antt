@@ -3,7 +3,7 @@ use Prim.Native.Nat.{ℕ, ◌≤◌, ◌<◌}
 use mathlib.Core.Path.{◌≡◌, ◌∙◌, ap, subst⁻¹}
 use mathlib.Core.List.{List}
 use lib.ListN.{get_or}
-use Rattle.fields.specs.declared.trouble.Trouble.TheVariants.{Clear}
+use Rattle.fields.specs.Trouble.{Clear}
 use Rattle.records.specs.declared.Run.{Run}
 use Rattle.opening.specs.Opening.{version_of, run_count_of}
 use Rattle.parts.specs.Values.{run_at}

@@ -1,4 +1,5 @@
 -- A run worked with what was chosen for it, put together.
+use Rattle.std.specs.Prelude.{Option}
 use Prim.Native.Nat.{ℕ}
 use mathlib.Core.Path.{◌≡◌, refl, ◌∙◌, subst⁻¹}
 use mathlib.Core.Bool.{Bool}
@@ -11,7 +12,6 @@ use Rattle.records.specs.declared.Run.{Run}
 use Rattle.values.specs.declared.Diameters.{Diameters}
 use Rattle.lines.specs.declared.Lines.{Lines}
 use Rattle.lines.specs.declared.Sheet.{Sheet}
-use Rattle.values.specs.declared.Value.{Value}
 use Rattle.lines.specs.Promise.{RunWithValues}
 use Rattle.lines.specs.Sheet.{lines, sheet}
 use Rattle.choosing.specs.declared.Chosen.{Chosen}
@@ -31,7 +31,7 @@ use Rattle.reduction.specs.Reducing.{Reducible, found_for, judged, worked, reduc
 
 module _ (v : Version) (f : ℕ → Certificate) (n : ℕ) (r : Run) (ok : Reducible f n r) where
   -- what is chosen for a run is in range, and so are the values that it gives
-  pub lines_workable : {ch : Chosen} {y cp : Value} {nozzle : Diameters} → ch ≡ chosen_for f n r.header → y ≡ factor_of v ch → cp ≡ coefficient_of ch → nozzle ≡ diameters_of ch → RunWithValues r y cp nozzle
+  pub lines_workable : {ch : Chosen} {y cp : Option ℕ} {nozzle : Option Diameters} → ch ≡ chosen_for f n r.header → y ≡ factor_of v ch → cp ≡ coefficient_of ch → nozzle ≡ diameters_of ch → RunWithValues r y cp nozzle
   lines_workable {ch} ec ey ecp en =
       let chosen : ChosenOk ch = subst⁻¹ ChosenOk ec (chosen_in_range f n r.header ok.certificates) in
       record {
@@ -42,7 +42,7 @@ module _ (v : Version) (f : ℕ → Certificate) (n : ℕ) (r : Run) (ok : Reduc
       }
 
 -- the findings take the lines that the chosen certificates give
-pub lines_worked : (v : Version) (r : Run) (ch : Chosen) {y cp : Value} {nozzle : Diameters} {l : Lines} → y ≡ factor_of v ch → cp ≡ coefficient_of ch → nozzle ≡ diameters_of ch → l ≡ lines r y cp nozzle → l ≡ lines_for v r ch
+pub lines_worked : (v : Version) (r : Run) (ch : Chosen) {y cp : Option ℕ} {nozzle : Option Diameters} {l : Lines} → y ≡ factor_of v ch → cp ≡ coefficient_of ch → nozzle ≡ diameters_of ch → l ≡ lines r y cp nozzle → l ≡ lines_for v r ch
 unfolding lines_for
 lines_worked v r ch ey ecp en el = el ∙ rw (ey, ecp, en)
 

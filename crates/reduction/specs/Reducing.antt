@@ -1,6 +1,6 @@
 -- A run reduced: from its record, the certificates chosen for it, the job's version and a figure to its lines and its findings.
 -- Certificates are a function of an index, a run, a version and a figure are values; a job's file is one source of the first three.
-use Rattle.std.specs.Prelude.{ℕ, zero, suc, ◌≤◌, ◌<◌, cond, List, eqb, length}
+use Rattle.std.specs.Prelude.{Option, Some, None, ℕ, zero, suc, ◌≤◌, ◌<◌, cond, List, eqb, length}
 use Rattle.readings.specs.declared.headers.Version.{Version}
 use Rattle.records.specs.declared.Certificate.{Certificate}
 use Rattle.records.specs.declared.Run.{Run}
@@ -21,8 +21,6 @@ use Rattle.opening.specs.Opening.{version_of, certificate_count_of, run_count_of
 use Rattle.job.specs.Places.{run_of}
 use Rattle.job.specs.Reading.{ClearJob}
 use Rattle.reduction.specs.declared.Reduced.{Reduced}
-use Rattle.reduction.specs.declared.Which.{Which}
-use Rattle.reduction.specs.declared.Which.TheVariants.{Index, NoRun}
 
 -- From values
 
@@ -56,9 +54,9 @@ pub record Reducible (f : ℕ → Certificate) (n : ℕ) (r : Run) : Type 0 wher
   pub certificates : CertificatesOk f n
 
 -- which of the first n runs has a number
-unfoldable pub run_named : (ℕ → Run) → ℕ → ℕ → Which
-run_named f number zero = NoRun
-run_named f number (suc k) = cond (eqb (f k).header.number number) (Index k) (run_named f number k)
+unfoldable pub run_named : (ℕ → Run) → ℕ → ℕ → Option ℕ
+run_named f number zero = None
+run_named f number (suc k) = cond (eqb (f k).header.number number) (Some k) (run_named f number k)
 
 -- From a file
 

@@ -4,20 +4,20 @@
 #![tactic(auto)]
 
 ghost use Rattle.std.specs.Prelude.{◌≡◌};
-ghost use Rattle.opening.specs.Opening.{version_of};
 ghost use Rattle.heads.specs.Values.{certificate_of};
 ghost use Rattle.choosing.specs.Choosing.{chosen_for};
 ghost use Rattle.findings.specs.Seeking.{Seekable};
 ghost use Rattle.job.specs.Places.{run_of};
 ghost use Rattle.job.specs.Reading.{ClearJob};
-ghost use Rattle.reduction.specs.Reducing.{ReducibleFrom, ClearRun, judged, run_named, judged_run};
+ghost use Rattle.reduction.specs.Reducing.{Reducible, ClearRun, judged, run_named, judged_run};
 
 use fields::numbers;
 use findings::{Findings, Sought};
 use grounds::Ground;
+use heads::certificate::Certificates;
 use job::Job;
 use lines::{Sheet, sheets};
-use readings::headers::Version;
+use opening::JobFile;
 use records::Run;
 use steps::Figure;
 
@@ -32,34 +32,27 @@ pub struct Reduced {
     pub basis: Ground,
 }
 
-// What a search for a run by its number answers.
-#[derive(Clone, Copy)]
-pub enum Which {
-    Index(usize),
-    NoRun,
-}
-
-// A run, wherever it comes from, reduced with the first `count` certificates of a file, by its version and by a figure, and what is
-// sought of its findings.
-pub fn work(s: &[u8], v: Version, figure: Figure, count: usize, run: Run, sought: Sought) -> Reduced
-    requires reducible { (v ≡ version_of s.now) × ReducibleFrom s.now count run }
+// A run, wherever it comes from, reduced with the certificates of a file, by its version and by a figure, and what is sought of its
+// findings.
+pub fn work(all: Certificates<'_>, figure: Figure, run: Run, sought: Sought) -> Reduced
+    requires reducible { Reducible (certificate_of all.file.bytes.now) all.count run }
     requires seekable { Seekable sought }
-    ensures { result ≡ judged sought v figure run (chosen_for (certificate_of s.now) count run.header) }
+    ensures { result ≡ judged sought all.entry.file.version figure run (chosen_for (certificate_of all.entry.file.bytes.now) all.entry.count run.header) }
 {
-    let chosen = certs::choose_all(s, v, count, run.header);
+    let v = all.file.version;
+    let chosen = certs::choose_all(all, run.header);
     let y = factors::factor_of(v, chosen);
     let cp = factors::coefficient_of(chosen);
     let nozzle = factors::diameters_of(chosen);
     let l = sheets::lines(run, y, cp, nozzle);
     let walked = findings::find(v, figure, run, chosen, l, sought);
     let found = walked.findings;
-    let ground = walked.basis;
     Reduced {
         number: run.header.number,
-        accepted: findings::accepted(found),
+        accepted: findings::accepted(&found.list[..found.count]),
         sheet: sheets::sheet(l),
         findings: found,
-        basis: ground,
+        basis: walked.basis,
     }
 }
 
@@ -69,32 +62,25 @@ pub fn reduce(s: &[u8], job: Job, figure: Figure, k: usize, sought: Sought) -> R
     requires seekable { Seekable sought }
     ensures { result ≡ judged_run sought figure s.now k }
 {
-    let v = opening::version(s);
-    let starts = job.starts;
-    work(
-        s,
-        v,
-        figure,
-        job.certificates,
-        parts::run(s, v, starts[k]),
-        sought,
-    )
+    let file = JobFile::of(s);
+    let run = parts::run(file, job.starts[k]);
+    let all = Certificates {
+        file,
+        count: job.certificates,
+    };
+    work(all, figure, run, sought)
 }
 
 // The run of that number in a job without trouble. Numbers rise, so there is at most one.
-pub fn find_run(s: &[u8], job: Job, number: u16) -> Which
+pub fn find_run(s: &[u8], job: Job, number: u16) -> Option<usize>
     requires { ClearJob s.now job }
     ensures { result ≡ run_named (run_of s.now) number job.runs }
 {
-    let starts = job.starts;
-    let runs = job.runs;
-    let mut found = Which::NoRun;
-    let mut k: usize = 0;
-    while k < runs {
-        if numbers::u16_at(numbers::tail(s, starts[k]), 0) == number {
-            found = Which::Index(k);
+    let mut found = None;
+    for k in 0..job.runs {
+        if numbers::u16_at(numbers::tail(s, job.starts[k]), 0) == number {
+            found = Some(k);
         }
-        k += 1;
     }
     found
 }

@@ -1,5 +1,6 @@
 -- Every call to explain is refused by a row of the table, with nothing written, or explains a finding that the run has; and where a row
 -- applies, that is the answer.
+use Rattle.std.specs.Prelude.{Option, Some, None}
 use Prim.Native.Nat.{ℕ, ◌≤◌, ◌<◌}
 use mathlib.Core.Path.{◌≡◌, refl, sym, ◌∙◌, ap}
 use mathlib.Core.Bool.{Bool, true, false, true≢false}
@@ -7,22 +8,18 @@ use mathlib.Core.List.{List}
 use borrow.Author.Tests.{ltb-true, ltb-false, lt-ltb, le-ltb}
 use lib.Dec.{ltb}
 use lib.ListN.{length}
-use Rattle.fields.specs.declared.trouble.Trouble.{Trouble}
-use Rattle.fields.specs.declared.trouble.Trouble.TheVariants.{Clear, At}
+use Rattle.fields.specs.Trouble.{Trouble, Clear, At}
 use Rattle.grounds.specs.Grounds.{broken}
 use Rattle.steps.specs.declared.Figure.{Figure}
 use Rattle.opening.specs.Opening.{version_of, certificate_count_of, run_count_of}
 use Rattle.heads.specs.Values.{certificate_of}
 use Rattle.job.specs.Places.{run_of}
 use Rattle.job.specs.Troubles.{job_trouble}
-use Rattle.reduction.specs.declared.Which.{Which}
-use Rattle.reduction.specs.declared.Which.TheVariants.{Index, NoRun}
 use Rattle.reduction.specs.Reducing.{chosen_in, run_named}
 use Rattle.reduction.proofs.Naming.{found_inside, named, none_named}
 use Rattle.findings.specs.Listing.{HasFinding}
 use Rattle.output.specs.Answers.{packed}
 use Rattle.printed.specs.Printing.{Printing, unprinted, printed, if_fits, unprinted_if_bad, printing_answer, printing_out}
-use Rattle.explaining.specs.declared.Explained.TheVariants.{NoFinding, Because}
 use Rattle.explaining.specs.Explaining.{explanation, explained, explained_run}
 use Rattle.forms.specs.declared.Form.{Form}
 use Rattle.explanations.specs.Written.{written}
@@ -40,11 +37,11 @@ use Rattle.reviewing.proofs.Placed.{from_one_table}
 
 -- A run that has the finding is explained, and one that does not have it is not
 module _ (fig : Figure) (s : List ℕ) (k rule place : ℕ) where
-  pub has_reason : HasFinding (findings_in fig s k) rule place → explained_run fig s k rule place ≡ Because (explanation (version_of s) fig (certificate_of s) (certificate_count_of s) (run_of s k) rule place)
+  pub has_reason : HasFinding (findings_in fig s k) rule place → explained_run fig s k rule place ≡ Some (explanation (version_of s) fig (certificate_of s) (certificate_count_of s) (run_of s k) rule place)
   unfolding explained_run explained chosen_in
   has_reason h = rw ((from_one_table fig s k rule place).finding.0 h)
 
-  pub no_reason : (HasFinding (findings_in fig s k) rule place → ⊥) → explained_run fig s k rule place ≡ NoFinding
+  pub no_reason : (HasFinding (findings_in fig s k) rule place → ⊥) → explained_run fig s k rule place ≡ None
   unfolding explained_run explained chosen_in
   no_reason none = rw (stands (broken (ground_of_run fig s k rule place)) refl)
     where
@@ -153,9 +150,9 @@ module _ (a : Asking) where
         (λ has. by_room figure clear k only has _ refl)
         (λ none. by_row 15 0 (row_for15 figure (clear_job s clear) k only none))
 
-    by_number : GoodLent l → job_trouble s ≡ Clear → (which : Which) → run_named (run_of s) a.run (run_count_of s) ≡ which → CameOf a
-    by_number figure clear NoRun e = by_row 10 0 (row_for10 figure (clear_job s clear) (none_named (run_of s) a.run (run_count_of s) e))
-    by_number figure clear (Index k) e =
+    by_number : GoodLent l → job_trouble s ≡ Clear → (which : Option ℕ) → run_named (run_of s) a.run (run_count_of s) ≡ which → CameOf a
+    by_number figure clear None e = by_row 10 0 (row_for10 figure (clear_job s clear) (none_named (run_of s) a.run (run_count_of s) e))
+    by_number figure clear (Some k) e =
         by_finding figure clear k (only_run s a.run clear k (found_inside (run_of s) a.run (run_count_of s) e) (named (run_of s) a.run (run_count_of s) e))
 
     by_trouble : GoodLent l → (t : Trouble) → job_trouble s ≡ t → CameOf a

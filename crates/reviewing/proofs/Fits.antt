@@ -2,7 +2,6 @@
 use Prim.Native.Nat.{ℕ, ◌≤◌, ◌<◌}
 use mathlib.Core.Path.{◌≡◌, refl}
 use mathlib.Core.Bool.{Bool, true, false, cond}
-use mathlib.Core.List.{[]}
 use borrow.Author.Tests.{ltb-true}
 use lib.Dec.{ltb, eqb, lit<}
 use Rattle.readings.specs.declared.headers.Version.{Version}

@@ -1,4 +1,6 @@
 -- What each rule shows fits, from the ranges of what it goes by.
+use Rattle.std.specs.Prelude.{Option, Some, None}
+use Rattle.arith.specs.declared.Division.{Division}
 use Prim.Native.Nat.{ℕ, ◌+◌, ◌*◌, ◌^◌, ◌≤◌, ◌<◌}
 use mathlib.Core.Path.{◌≡◌, refl}
 use mathlib.Core.Bool.{Bool, true, false, cond}
@@ -12,14 +14,8 @@ use Rattle.readings.proofs.Ranges.{within_greatest}
 use Rattle.records.specs.declared.Certificate.{Certificate}
 use Rattle.records.specs.declared.Site.{Site}
 use Rattle.records.specs.InRange.{NozzleOk, SegmentOk, WeighingOk, SiteOk}
-use Rattle.values.specs.declared.Ratio.{Ratio}
-use Rattle.values.specs.declared.Ratio.TheVariants.{Exact, Unworked}
-use Rattle.values.specs.declared.Value.{Value}
-use Rattle.values.specs.declared.Value.TheVariants.{Known, Missing}
 use Rattle.metering.proofs.Products.{leaked_most}
 use Rattle.sampling.specs.Promise.{CatchOk}
-use Rattle.choosing.specs.declared.Lookup.{Lookup}
-use Rattle.choosing.specs.declared.Lookup.TheVariants.{Found, Nothing}
 use Rattle.factors.specs.Factor.{factor_moved}
 use Rattle.diameters.specs.Diameters.{is_round, fraction, diameter, half_diameter}
 use Rattle.grounds.specs.declared.comparison.Way.{Way}
@@ -33,26 +29,26 @@ use Rattle.reviewing.proofs.FitsPoints.{most_points, next_allowed_most}
 use Rattle.reviewing.proofs.FitsShown.{ShownFits, BothFit, silent_fits, no_certificate_fits, compared_fits, either_fits, exactly_fits, signed_fits, below_fits, above_fits, same_fits}
 
 -- 1 to 4: a certificate is missing, or it is not: no number is shown
-pub missing_fits : (l : Lookup) → ShownFits (missing l)
+pub missing_fits : (l : Option Certificate) → ShownFits (missing l)
 unfolding missing
-missing_fits Nothing = no_certificate_fits
-missing_fits (Found c) = silent_fits
+missing_fits None = no_certificate_fits
+missing_fits (Some c) = silent_fits
 
 -- 5: both factors in range
-pub moved_fits : (b a : Lookup) → ((c : Certificate) → b ≡ Found c → meter_factor c.first ≡ true) → ((c : Certificate) → a ≡ Found c → meter_factor c.first ≡ true) → ShownFits (moved b a)
+pub moved_fits : (b a : Option Certificate) → ((c : Certificate) → b ≡ Some c → meter_factor c.first ≡ true) → ((c : Certificate) → a ≡ Some c → meter_factor c.first ≡ true) → ShownFits (moved b a)
 unfolding moved factor_moved apart
-moved_fits Nothing a before after = silent_fits
-moved_fits (Found b) Nothing before after = silent_fits
-moved_fits (Found b) (Found a) before after =
+moved_fits None a before after = silent_fits
+moved_fits (Some b) None before after = silent_fits
+moved_fits (Some b) (Some a) before after =
     let own = within_greatest _ _ _ (before b refl) in
     let other = within_greatest _ _ _ (after a refl) in
     compared_fits _ (above_fits _ _ (omega arith))
 
 -- 6: three diameters in range
-pub uneven_fits : (l : Lookup) → ((c : Certificate) → l ≡ Found c → NozzleOk c) → ShownFits (uneven l)
+pub uneven_fits : (l : Option Certificate) → ((c : Certificate) → l ≡ Some c → NozzleOk c) → ShownFits (uneven l)
 unfolding uneven
-uneven_fits Nothing ok = silent_fits
-uneven_fits (Found n) ok =
+uneven_fits None ok = silent_fits
+uneven_fits (Some n) ok =
     let first = within_greatest _ _ _ (ok n refl).first in
     let second = within_greatest _ _ _ (ok n refl).second in
     let third = within_greatest _ _ _ (ok n refl).third in
@@ -132,20 +128,20 @@ unsteady_fits (OnePoint p) ok = silent_fits
 unsteady_fits (OneSegment s) ok = silent_fits
 
 -- 12 and 14: a line that is 0
-pub line_fits : (v : Value) → ShownFits (line_against v Same 0)
+pub line_fits : (v : Option ℕ) → ShownFits (line_against v Same 0)
 unfolding line_against
-line_fits Missing = silent_fits
-line_fits (Known n) = compared_fits _ (same_fits n 0 (lit< tt))
+line_fits None = silent_fits
+line_fits (Some n) = compared_fits _ (same_fits n 0 (lit< tt))
 
 -- 15 and 16: a quotient and a remainder that fit
-abbrev pub RatioFits : Ratio → Type 0
-RatioFits Unworked = Unit {0}
-RatioFits (Exact n) = BothFit n.quotient n.remainder
+abbrev pub RatioFits : Option Division → Type 0
+RatioFits None = Unit {0}
+RatioFits (Some n) = BothFit n.quotient n.remainder
 
-pub ratio_fits : (v : Ratio) (way : Way) (limit : ℕ) → RatioFits v → limit < 2 ^ 63 → ShownFits (ratio_against v way limit)
+pub ratio_fits : (v : Option Division) (way : Way) (limit : ℕ) → RatioFits v → limit < 2 ^ 63 → ShownFits (ratio_against v way limit)
 unfolding ratio_against
-ratio_fits Unworked way limit fits small = silent_fits
-ratio_fits (Exact n) way limit fits small = exactly_fits _ fits small
+ratio_fits None way limit fits small = silent_fits
+ratio_fits (Some n) way limit fits small = exactly_fits _ fits small
 
 -- 18 and 19: none of a kind
 pub lacking_fits : (n : ℕ) → ShownFits (lacking n)

@@ -1,4 +1,5 @@
 -- The lines that rules 11, 15, 16 and 20 show are in range, of a run and certificates in range: line by line, from the definitions.
+use Rattle.std.specs.Prelude.{Option, Some, None}
 use Prim.Native.Nat.{ℕ, zero, suc, ◌+◌, ◌*◌, ◌^◌, ◌≤◌, ◌<◌}
 use mathlib.Core.Path.{◌≡◌, refl}
 use mathlib.Core.Bool.{true}
@@ -21,10 +22,6 @@ use Rattle.records.specs.InRange.{RunOk, AcetoneOk}
 use Rattle.records.specs.Records.{no_weighing}
 use Rattle.records.proofs.Sums.{sum_le}
 use Rattle.values.specs.declared.Diameters.{Diameters}
-use Rattle.values.specs.declared.Diameters.TheVariants.{Measured, Unknown}
-use Rattle.values.specs.declared.Ratio.TheVariants.{Unworked}
-use Rattle.values.specs.declared.Value.{Value}
-use Rattle.values.specs.declared.Value.TheVariants.{Known, Missing}
 use Rattle.values.specs.Promise.{Between, DiametersOk, unless_zero}
 use Rattle.values.specs.Signed.{add_scaled}
 use Rattle.values.proofs.Promise.{missing_between, known_between}
@@ -62,11 +59,11 @@ corrected_most t v segments n some few =
     (omega (arith, mul-le-mul_left (300 * t) few, sub-le (300 * t * v) (leak_losses t v segments n)))
 
 -- line 6 is never 0, and small
-dry_range : (corrected : ℕ) (y : Value) (p t : ℕ) → corrected ≤ greatest_above_first → Between least_factor greatest_factor y → least_meter_pressure ≤ p → p ≤ 334706 → least_meter_rankine ≤ t → t ≤ greatest_meter_rankine → Between least_dry_volume greatest_dry_volume (dry_volume corrected y p t)
+dry_range : (corrected : ℕ) (y : Option ℕ) (p t : ℕ) → corrected ≤ greatest_above_first → Between least_factor greatest_factor y → least_meter_pressure ≤ p → p ≤ 334706 → least_meter_rankine ≤ t → t ≤ greatest_meter_rankine → Between least_dry_volume greatest_dry_volume (dry_volume corrected y p t)
 unfolding add_scaled dry_volume unless_zero
-dry_range corrected Missing p t few factor low high cold warm = missing_between
-dry_range zero (Known f) p t few factor low high cold warm = missing_between
-dry_range (suc n) (Known f) p t few factor low high cold warm =
+dry_range corrected None p t few factor low high cold warm = missing_between
+dry_range zero (Some f) p t few factor low high cold warm = missing_between
+dry_range (suc n) (Some f) p t few factor low high cold warm =
     let own = factor.known f refl in
     let some : 1 ≤ suc n = omega arith in
     let numerator = dry_numerator few own.1 high in
@@ -80,10 +77,10 @@ unfolding water_vapor
 vapor_most water few = round_le _ 1000 94140 (lit< tt) (omega arith)
 
 -- a share of the whole
-moisture_range : (dry : Value) (vapor : ℕ) → Between least_dry_volume greatest_dry_volume dry → Between 0 100000 (moisture dry vapor)
+moisture_range : (dry : Option ℕ) (vapor : ℕ) → Between least_dry_volume greatest_dry_volume dry → Between 0 100000 (moisture dry vapor)
 unfolding moisture
-moisture_range Missing vapor range = missing_between
-moisture_range (Known d) vapor range =
+moisture_range None vapor range = missing_between
+moisture_range (Some d) vapor range =
     let some = (range.known d refl).0 in
     known_between (omega arith) (round_le _ (d + vapor) 100000 (omega arith) (omega arith))
 
@@ -95,10 +92,10 @@ unfolding dry_weight
 dry_weight_range co2 o2 few = (omega arith, omega arith)
 
 -- from water alone up to the dry weight
-wet_weight_range : (dry : ℕ) (m : Value) → 28000 ≤ dry → dry ≤ 44000 → Between 0 100000 m → Between 18000 44000 (wet_weight dry m)
+wet_weight_range : (dry : ℕ) (m : Option ℕ) → 28000 ≤ dry → dry ≤ 44000 → Between 0 100000 m → Between 18000 44000 (wet_weight dry m)
 unfolding wet_weight
-wet_weight_range dry Missing least most range = missing_between
-wet_weight_range dry (Known w) least most range =
+wet_weight_range dry None least most range = missing_between
+wet_weight_range dry (Some w) least most range =
     let few = (range.known w refl).1 in
     known_between
     (le_round _ 100000 18000 (lit< tt) (omega (arith, wet_least w least)))
@@ -111,47 +108,47 @@ stack_pressure_least pb pg low high ok =
     le_round _ 136 177941 (lit< tt) (omega (arith, pressure_least_lem pb low high pg ok))
 
 -- the hottest, lightest gas at the least pressure
-density_range : (wet : Value) (p t : ℕ) → Between 18000 44000 wet → 177941 ≤ p → t ≤ 24600 → Between 0 greatest_density_root (density_root wet p t)
+density_range : (wet : Option ℕ) (p t : ℕ) → Between 18000 44000 wet → 177941 ≤ p → t ≤ 24600 → Between 0 greatest_density_root (density_root wet p t)
 unfolding density_root
-density_range Missing p t range low warm = missing_between
-density_range (Known w) p t range low warm = known_between (omega arith) (density_most low (range.known w refl).0 warm)
+density_range None p t range low warm = missing_between
+density_range (Some w) p t range low warm = known_between (omega arith) (density_most low (range.known w refl).0 warm)
 
 -- a coefficient and both roots at their greatest
-velocity_range : (cp : Value) (mean : ℕ) (density : Value) → Between least_coefficient greatest_coefficient cp → mean ≤ greatest_root → Between 0 greatest_density_root density → Between 0 greatest_velocity (velocity cp mean density)
+velocity_range : (cp : Option ℕ) (mean : ℕ) (density : Option ℕ) → Between least_coefficient greatest_coefficient cp → mean ≤ greatest_root → Between 0 greatest_density_root density → Between 0 greatest_velocity (velocity cp mean density)
 unfolding velocity
-velocity_range Missing mean density coefficient few range = missing_between
-velocity_range (Known k) mean Missing coefficient few range = missing_between
-velocity_range (Known k) mean (Known q) coefficient few range =
+velocity_range None mean density coefficient few range = missing_between
+velocity_range (Some k) mean None coefficient few range = missing_between
+velocity_range (Some k) mean (Some q) coefficient few range =
     let numerator = velocity_numerator (coefficient.known k refl).1 few (range.known q refl).1 in
     known_between (omega arith) (round_le_exact _ (10 ^ 11) greatest_velocity (lit< tt) (omega (arith, numerator)))
 
 -- Lines 16 to 19
 
 -- three diameters in range
-area_range : (d : Diameters) → DiametersOk d → Between 5454 545417 (nozzle_area d)
+area_range : (d : Option Diameters) → DiametersOk d → Between 5454 545417 (nozzle_area d)
 unfolding nozzle_area
-area_range Unknown ok = missing_between
-area_range (Measured a b c) ok =
-    let (least, most) = sum_range a b c ok refl in
+area_range None ok = missing_between
+area_range (Some d) ok =
+    let (least, most) = sum_range d ok refl in
     let is = is_area least most refl in
     known_between is.low is.high
 
 -- the most gas, hottest and at the least pressure
-drawn_range : (dry : Value) (vapor p t : ℕ) → Between least_dry_volume greatest_dry_volume dry → vapor ≤ 94140 → 177941 ≤ p → t ≤ 24600 → Between 0 19675261 (drawn_gas dry vapor p t)
+drawn_range : (dry : Option ℕ) (vapor p t : ℕ) → Between least_dry_volume greatest_dry_volume dry → vapor ≤ 94140 → 177941 ≤ p → t ≤ 24600 → Between 0 19675261 (drawn_gas dry vapor p t)
 unfolding drawn_gas
-drawn_range Missing vapor p t range few low warm = missing_between
-drawn_range (Known d) vapor p t range few low warm =
+drawn_range None vapor p t range few low warm = missing_between
+drawn_range (Some d) vapor p t range few low warm =
     let most = (range.known d refl).1 in
     let together : d + vapor ≤ 1506016 = omega arith in
     known_between (omega arith)
     (round_le _ (10 * p) 19675261 (omega arith) (omega (arith, drawn_numerator warm together)))
 
 -- the quotient is small since the divisor is at least 5454, and the remainder since the divisor is small
-isokinetic_fits : (drawn speed area : Value) (t : ℕ) → Between 0 19675261 drawn → Between 0 greatest_velocity speed → Between 5454 545417 area → least_seconds ≤ t → t ≤ greatest_total_seconds → RatioFits (isokinetic drawn speed area t)
+isokinetic_fits : (drawn speed area : Option ℕ) (t : ℕ) → Between 0 19675261 drawn → Between 0 greatest_velocity speed → Between 5454 545417 area → least_seconds ≤ t → t ≤ greatest_total_seconds → RatioFits (isokinetic drawn speed area t)
 unfolding division
 isokinetic_fits drawn speed area t gas moving opening some few = go (worked_or_not drawn speed area t)
   where
-    go : (isokinetic drawn speed area t ≡ Unworked) ⊎ WorkedFrom drawn speed area t → RatioFits (isokinetic drawn speed area t)
+    go : (isokinetic drawn speed area t ≡ None) ⊎ WorkedFrom drawn speed area t → RatioFits (isokinetic drawn speed area t)
     go (inl not) = rw not tt
     go (inr w) =
         let g = (gas.known _ w.is_drawn).1 in
@@ -181,7 +178,7 @@ catch_range weighings n a ok acetone =
 
 -- Of a run and the values that its certificates give it, all in range
 
-module _ (r : Run) (y cp : Value) (nozzle : Diameters) (ok : RunWithValues r y cp nozzle) where
+module _ (r : Run) (y cp : Option ℕ) (nozzle : Option Diameters) (ok : RunWithValues r y cp nozzle) where
   run : RunOk r
   run = ok.run
 

@@ -1,4 +1,6 @@
 -- No explanation has more than 70 bytes: two conditions and no certificate day, or one condition and four days.
+use Rattle.std.specs.Prelude.{Option, Some, None}
+use Rattle.arith.specs.declared.Division.{Division}
 use Prim.Native.Nat.{ℕ, ◌+◌, ◌*◌, ◌≤◌}
 use mathlib.Core.Path.{◌≡◌, refl, sym, ◌∙◌, subst⁻¹}
 use mathlib.Core.Bool.{Bool, true, false, true≢false, cond}
@@ -15,12 +17,6 @@ use Rattle.records.specs.declared.Certificate.{Certificate}
 use Rattle.records.specs.declared.Run.{Run}
 use Rattle.records.specs.declared.Site.{Site}
 use Rattle.records.specs.declared.RunHeader.{RunHeader}
-use Rattle.values.specs.declared.Ratio.{Ratio}
-use Rattle.values.specs.declared.Ratio.TheVariants.{Exact, Unworked}
-use Rattle.values.specs.declared.Value.{Value}
-use Rattle.values.specs.declared.Value.TheVariants.{Known, Missing}
-use Rattle.choosing.specs.declared.Lookup.{Lookup}
-use Rattle.choosing.specs.declared.Lookup.TheVariants.{Found, Nothing}
 use Rattle.choosing.specs.Choosing.{chosen, chosen_for}
 use Rattle.grounds.specs.declared.comparison.Way.{Way}
 use Rattle.grounds.specs.declared.Ground.{Ground}
@@ -33,11 +29,12 @@ use Rattle.site.specs.Site.{narrow}
 use Rattle.rules.specs.declared.Beside.{Beside}
 use Rattle.rules.specs.Rules.{table, ground_of}
 use Rattle.steps.specs.declared.Figure.{Figure}
+use Rattle.dates.specs.declared.Side.TheVariants as side
 use Rattle.dates.specs.declared.Use.{Use}
 use Rattle.dates.specs.declared.Use.TheVariants.{Neither, Before, Both}
 use Rattle.dates.specs.declared.Sides.{Sides}
 use Rattle.dates.specs.declared.Days.{Days}
-use Rattle.dates.specs.Dates.{before, after, worked_use, meter_use, pitot_use, nozzle_use, day_of, sides_of, days_of, entries_on, entries_of, entries}
+use Rattle.dates.specs.Dates.{worked_use, meter_use, pitot_use, nozzle_use, day_of, sides_of, days_of, entries_on, entries_of, entries}
 use Rattle.dates.proofs.Entries.{one_a_side}
 use Rattle.reasons.proofs.Lengths.{condition_bytes_length, day_bytes_length}
 use Rattle.explaining.specs.declared.Explanation.{Explanation}
@@ -62,7 +59,7 @@ conditions_bytes rule round (c ∷ cs) =
 sides_bytes : (kind : ℕ) (s : Sides) → length (sides_in Bytes kind s) ≡ 5 * entries_of s
 unfolding sides_in day_in entries_of
 sides_bytes kind s =
-    omega (arith, length-append (day_in Bytes kind before s.before) (day_in Bytes kind after s.after), day_bytes_length kind before s.before, day_bytes_length kind after s.after)
+    omega (arith, length-append (day_in Bytes kind side.Before s.before) (day_in Bytes kind side.After s.after), day_bytes_length kind side.Before s.before, day_bytes_length kind side.After s.after)
 
 days_bytes : (d : Days) → length (days_in Bytes d) ≡ 5 * entries d
 unfolding days_in entries
@@ -86,7 +83,7 @@ count Neither = 0
 count Before = 1
 count Both = 2
 
-counted : (u : Use) (b a : Lookup) → entries_of (sides_of u b a) ≤ count u
+counted : (u : Use) (b a : Option Certificate) → entries_of (sides_of u b a) ≤ count u
 unfolding count sides_of entries_of entries_on
 counted Neither b a = omega arith
 counted Before b a = omega (arith, one_a_side (day_of b))
@@ -144,21 +141,21 @@ no_uses v = (refl, refl)
 
 -- How many conditions a rule has: but for 8 and 9, one or none
 
-missing_one : (l : Lookup) → length (conditions (missing l)) ≤ 1
+missing_one : (l : Option Certificate) → length (conditions (missing l)) ≤ 1
 unfolding missing conditions
-missing_one Nothing = omega arith
-missing_one (Found c) = omega arith
+missing_one None = omega arith
+missing_one (Some c) = omega arith
 
-moved_one : (b a : Lookup) → length (conditions (moved b a)) ≤ 1
+moved_one : (b a : Option Certificate) → length (conditions (moved b a)) ≤ 1
 unfolding moved conditions
-moved_one Nothing a = omega arith
-moved_one (Found b) Nothing = omega arith
-moved_one (Found b) (Found a) = omega arith
+moved_one None a = omega arith
+moved_one (Some b) None = omega arith
+moved_one (Some b) (Some a) = omega arith
 
-uneven_one : (l : Lookup) → length (conditions (uneven l)) ≤ 1
+uneven_one : (l : Option Certificate) → length (conditions (uneven l)) ≤ 1
 unfolding uneven conditions
-uneven_one Nothing = omega arith
-uneven_one (Found c) = omega arith
+uneven_one None = omega arith
+uneven_one (Some c) = omega arith
 
 short_one : (p : Part) → length (conditions (short p)) ≤ 1
 unfolding short conditions
@@ -174,15 +171,15 @@ leaking_one t v (OnePoint p) = omega arith
 leaking_one t v (OneSegment s) = omega arith
 leaking_one t v (OneWeighing w) = omega arith
 
-line_one : (x : Value) (way : Way) (limit : ℕ) → length (conditions (line_against x way limit)) ≤ 1
+line_one : (x : Option ℕ) (way : Way) (limit : ℕ) → length (conditions (line_against x way limit)) ≤ 1
 unfolding line_against conditions
-line_one Missing way limit = omega arith
-line_one (Known n) way limit = omega arith
+line_one None way limit = omega arith
+line_one (Some n) way limit = omega arith
 
-ratio_one : (x : Ratio) (way : Way) (limit : ℕ) → length (conditions (ratio_against x way limit)) ≤ 1
+ratio_one : (x : Option Division) (way : Way) (limit : ℕ) → length (conditions (ratio_against x way limit)) ≤ 1
 unfolding ratio_against conditions
-ratio_one Unworked way limit = omega arith
-ratio_one (Exact n) way limit = omega arith
+ratio_one None way limit = omega arith
+ratio_one (Some n) way limit = omega arith
 
 unsteady_one : (p : Part) → length (conditions (unsteady p)) ≤ 1
 unfolding unsteady conditions

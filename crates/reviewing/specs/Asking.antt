@@ -6,9 +6,7 @@ use Rattle.findings.specs.Listing.{HasFinding}
 use Rattle.heads.specs.Values.{certificate_of}
 use Rattle.opening.specs.Opening.{version_of, certificate_count_of, run_count_of}
 use Rattle.job.specs.Places.{run_of}
-use Rattle.output.specs.declared.Answer.{Answer}
-use Rattle.output.specs.declared.Answer.TheVariants.{Done, Refused}
-use Rattle.output.specs.Answers.{packed}
+use Rattle.output.specs.Answers.{Answer, Done, Refused, packed}
 use Rattle.output.specs.Splice.{spliced}
 use Rattle.explaining.specs.declared.Explanation.{Explanation}
 use Rattle.explaining.specs.Explaining.{explanation}

@@ -1,8 +1,7 @@
 -- The table of the rules of docs/RULES.md, The findings: what each goes by.
-use Rattle.std.specs.Prelude.{ℕ, ◌≤◌, List, [], ◌∷◌}
+use Rattle.std.specs.Prelude.{ℕ, ◌≤◌, List, [], ◌∷◌, Some}
 use Rattle.numbered.specs.Numbered.{Numbered, row_of}
 use Rattle.readings.specs.Ranges.{greatest_above_first, greatest_total_seconds}
-use Rattle.values.specs.declared.Value.TheVariants.{Known}
 use Rattle.grounds.specs.declared.comparison.Way.TheVariants.{Below, Above, Same}
 use Rattle.grounds.specs.declared.Ground.{Ground}
 use Rattle.grounds.specs.declared.Ground.TheVariants.{Silent}
@@ -30,7 +29,7 @@ table part b =
     ∷ (9 goes_by wrong_points b.site.shape b.least b.counts.points)
     ∷ (10 goes_by short part)
     ∷ (11 goes_by leaking b.lines.metering.time b.lines.metering.volume part)
-    ∷ (12 goes_by line_against (Known b.lines.metering.corrected) Same 0)
+    ∷ (12 goes_by line_against (Some b.lines.metering.corrected) Same 0)
     ∷ (14 goes_by line_against b.lines.stack.velocity Same 0)
     ∷ (15 goes_by ratio_against b.lines.sampling.isokinetic Below least_isokinetic)
     ∷ (16 goes_by ratio_against b.lines.sampling.isokinetic Above greatest_isokinetic)

@@ -1,18 +1,17 @@
 -- The starred values of docs/RULES.md that are about rules, as lists of what is given and what is expected.
-use Rattle.std.specs.Prelude.{ℕ, ◌≡◌, Bool, true, false, cond, List, [], ◌∷◌, ℤ, pos, neg_ℤ}
+use Rattle.std.specs.Prelude.{ℕ, ◌≡◌, Bool, true, false, cond, List, [], ◌∷◌, ℤ, pos, neg_ℤ, Some}
 use Rattle.arith.specs.declared.Division.{Division}
 use Rattle.readings.specs.declared.headers.Version.{Version}
 use Rattle.readings.specs.declared.headers.Version.TheVariants.{One, Two}
 use Rattle.records.specs.declared.Certificate.{Certificate}
 use Rattle.records.specs.declared.Weighing.{Weighing}
-use Rattle.values.specs.declared.Ratio.TheVariants.{Exact}
-use Rattle.values.specs.declared.Value.TheVariants.{Known}
-use Rattle.choosing.specs.declared.Lookup.TheVariants.{Found}
 use Rattle.factors.specs.Factor.{factor_of}
 use Rattle.conditions.specs.declared.Part.{Part}
 use Rattle.conditions.specs.declared.Part.TheVariants.{OneWeighing}
 use Rattle.conditions.specs.Conditions.{difference, net}
-use Rattle.classes.specs.Classes.{fault, note, class_of}
+use Rattle.classes.specs.declared.Class.{Class}
+use Rattle.classes.specs.declared.Class.TheVariants.{Fault, Note}
+use Rattle.classes.specs.Classes.{class_of}
 use Rattle.rules.specs.declared.Beside.{Beside}
 use Rattle.grounds.specs.Grounds.{broken}
 use Rattle.rules.specs.Rules.{ground_of}
@@ -27,32 +26,33 @@ pub record StarredFactor : Type 0 where
   pub version : Version
   pub before : ℕ
   pub after : ℕ
-  pub five : List ℕ
+  pub five : List Class
   pub y : ℕ
 
+-- the starred factors
 unfoldable pub starred_factors : List StarredFactor
 starred_factors =
     record { version = One; before = 10000; after = 10500; five = []; y = 10000 }
-    ∷ record { version = One; before = 10000; after = 10501; five = note ∷ []; y = 10000 }
-    ∷ record { version = One; before = 10000; after = 9499; five = note ∷ []; y = 9499 }
+    ∷ record { version = One; before = 10000; after = 10501; five = Note ∷ []; y = 10000 }
+    ∷ record { version = One; before = 10000; after = 9499; five = Note ∷ []; y = 9499 }
     ∷ record { version = Two; before = 10000; after = 10500; five = []; y = 10000 }
-    ∷ record { version = Two; before = 10000; after = 10501; five = fault ∷ []; y = 10000 }
-    ∷ record { version = Two; before = 10000; after = 9499; five = fault ∷ []; y = 10000 }
+    ∷ record { version = Two; before = 10000; after = 10501; five = Fault ∷ []; y = 10000 }
+    ∷ record { version = Two; before = 10000; after = 9499; five = Fault ∷ []; y = 10000 }
     ∷ []
 
 -- the class of a finding of rule 5 in a job of that version, if the rule is broken
-abbrev pub five_in : Version → Part → Beside → List ℕ
+abbrev pub five_in : Version → Part → Beside → List Class
 five_in v part b = cond (broken (ground_of part b 5)) (class_of v 5 ∷ []) []
 
 -- whatever a rule looks at, before and after certificates of those factors give that finding, or none, and that Y
 abbrev pub FactorStands : StarredFactor → Type 0
 FactorStands s =
     (part : Part) (b : Beside) (before after : Certificate)
-    → b.chosen.before ≡ Found before
-    → b.chosen.after ≡ Found after
+    → b.chosen.before ≡ Some before
+    → b.chosen.after ≡ Some after
     → before.first ≡ s.before
     → after.first ≡ s.after
-    → (five_in s.version part b ≡ s.five) × (factor_of s.version b.chosen ≡ Known s.y)
+    → (five_in s.version part b ≡ s.five) × (factor_of s.version b.chosen ≡ Some s.y)
 
 -- a remainder: that one, or any
 pub data Remainder : Type 0 where
@@ -71,6 +71,7 @@ pub record StarredIsokinetic : Type 0 where
   pub fifteen : Bool
   pub sixteen : Bool
 
+-- the starred percents isokinetic
 unfoldable pub starred_isokinetic : List StarredIsokinetic
 starred_isokinetic =
     record { quotient = 8999; remainder = only 0; fifteen = true; sixteen = false }
@@ -86,7 +87,7 @@ starred_isokinetic =
 abbrev pub IsokineticStands : StarredIsokinetic → Type 0
 IsokineticStands s =
     (part : Part) (b : Beside) (n : Division)
-    → b.lines.sampling.isokinetic ≡ Exact n
+    → b.lines.sampling.isokinetic ≡ Some n
     → n.quotient ≡ s.quotient
     → Such s.remainder n.remainder
     → (broken (ground_of part b 15) ≡ s.fifteen) × (broken (ground_of part b 16) ≡ s.sixteen)
@@ -97,6 +98,7 @@ pub record StarredWeighing : Type 0 where
   pub net : ℤ
   pub seventeen : Bool
 
+-- the starred weighings
 unfoldable pub starred_weighings : List StarredWeighing
 starred_weighings =
     record { difference = 5; net = neg_ℤ (pos 600); seventeen = false }

@@ -17,7 +17,6 @@ use grounds::comparison::Way;
 use lines::Lines;
 use records::{Counts, Site};
 use site::{disturbed, narrow, wrong_points};
-use values::Value;
 
 // The highest number of a rule.
 pub const LAST_RULE: u8 = 20;
@@ -36,37 +35,31 @@ pub struct Beside {
 }
 
 // The table: what a rule goes by, of its part and of what stands beside it. A number that is not in it is of no rule.
+#[tactic(auto, unfolding(crate::specs::Rules::ground_of, crate::specs::Rules::table))]
 pub fn ground_of(part: Part, beside: Beside, rule: u8) -> Ground
     requires { Judgeable beside }
     ensures { result ≡ ground_of part beside rule }
 {
     let chosen = beside.chosen;
-    let before = chosen.before;
-    let after = chosen.after;
-    let pitot = chosen.pitot;
-    let nozzle = chosen.nozzle;
-    let lines = beside.lines;
-    let metering = lines.metering;
-    let stack = lines.stack;
-    let velocity = stack.velocity;
-    let sampling = lines.sampling;
-    let isokinetic = sampling.isokinetic;
+    let metering = beside.lines.metering;
+    let stack = beside.lines.stack;
+    let sampling = beside.lines.sampling;
     match rule {
-        1 => missing(before),
-        2 => missing(pitot),
-        3 => missing(nozzle),
-        4 => missing(after),
-        5 => moved(before, after),
-        6 => uneven(nozzle),
+        1 => missing(chosen.before),
+        2 => missing(chosen.pitot),
+        3 => missing(chosen.nozzle),
+        4 => missing(chosen.after),
+        5 => moved(chosen.before, chosen.after),
+        6 => uneven(chosen.nozzle),
         7 => narrow(beside.site),
         8 => disturbed(beside.site),
         9 => wrong_points(beside.site.shape, beside.least, beside.counts.points),
         10 => short(part),
         11 => leaking(metering.time, metering.volume, part),
-        12 => line_against(Value::Known(metering.corrected), Way::Same, 0),
-        14 => line_against(velocity, Way::Same, 0),
-        15 => ratio_against(isokinetic, Way::Below, Isokinetic::LEAST),
-        16 => ratio_against(isokinetic, Way::Above, Isokinetic::GREATEST),
+        12 => line_against(Some(metering.corrected), Way::Same, 0),
+        14 => line_against(stack.velocity, Way::Same, 0),
+        15 => ratio_against(sampling.isokinetic, Way::Below, Isokinetic::LEAST),
+        16 => ratio_against(sampling.isokinetic, Way::Above, Isokinetic::GREATEST),
         17 => unsteady(part),
         18 => lacking(beside.filters),
         19 => lacking(beside.rinses),

@@ -1,24 +1,20 @@
 -- What comes of the call for one of a job's runs: decided by the figure, by the job and by the lengths of the lent outputs, before a byte
 -- is written.
-use Rattle.std.specs.Prelude.{ℕ, List, length}
-use Rattle.fields.specs.declared.trouble.Trouble.{Trouble}
-use Rattle.fields.specs.declared.trouble.Trouble.TheVariants.{Clear, At}
+use Rattle.std.specs.Prelude.{Option, Some, None, ℕ, List, length}
+use Rattle.fields.specs.Trouble.{Trouble, Clear, At}
 use Rattle.steps.specs.declared.Figure.{Figure}
-use Rattle.figures.specs.declared.Supplied.{Supplied}
+use Rattle.figures.specs.Figures.{Supplied}
 use Rattle.opening.specs.Opening.{run_count_of}
 use Rattle.job.specs.Places.{run_of}
 use Rattle.job.specs.Troubles.{job_trouble}
-use Rattle.reduction.specs.declared.Which.{Which}
-use Rattle.reduction.specs.declared.Which.TheVariants.{Index, NoRun}
 use Rattle.reduction.specs.Reducing.{reduced_run, run_named}
-use Rattle.output.specs.declared.Answer.{Answer}
-use Rattle.output.specs.Answers.{unknown_run}
+use Rattle.output.specs.Answers.{Answer, unknown_run}
 use Rattle.handing.specs.Handing.{Outcome, refused, handed, Came}
 
 -- 10: no run of that number
-abbrev pub of_run : Figure → List ℕ → Which → ℕ → ℕ → Outcome
-of_run fig s NoRun lines findings = refused unknown_run 0
-of_run fig s (Index k) lines findings = handed (reduced_run fig s k) lines findings
+abbrev pub of_run : Figure → List ℕ → Option ℕ → ℕ → ℕ → Outcome
+of_run fig s None lines findings = refused unknown_run 0
+of_run fig s (Some k) lines findings = handed (reduced_run fig s k) lines findings
 
 -- the reader's 1 to 8 come first
 abbrev pub of_trouble : Trouble → Figure → List ℕ → ℕ → ℕ → ℕ → Outcome

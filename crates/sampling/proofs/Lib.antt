@@ -3,5 +3,6 @@ pub mod Products
 pub mod Cases
 pub mod Percent
 pub mod Difference
+pub mod Taken
 pub mod RunInRange
 pub mod Together

@@ -1,4 +1,5 @@
 -- The bounds of the products of lines 16 to 19.
+use Rattle.std.specs.Prelude.{Option, Some}
 use Prim.Native.Nat.{ℕ, ◌+◌, ◌*◌, ◌/◌, ◌≤◌}
 use mathlib.Core.Path.{◌≡◌}
 use native.Mathlib.Nat.{mul-le-mul, mul-le-mul_left, min-le_right, le_trans}
@@ -10,15 +11,14 @@ use Rattle.readings.proofs.Ranges.{within_greatest}
 use Rattle.records.specs.declared.Acetone.{Acetone}
 use Rattle.records.specs.InRange.{AcetoneOk}
 use Rattle.values.specs.declared.Diameters.{Diameters}
-use Rattle.values.specs.declared.Diameters.TheVariants.{Measured}
 use Rattle.values.specs.Promise.{Is, DiametersOk}
 use Rattle.values.proofs.Promise.{rounded}
 use Rattle.stack.specs.Promise.{greatest_velocity}
 use Rattle.sampling.specs.Sampling.{deduction}
 
 -- Line 16
-pub sum_range : {d : Diameters} (a b c : ℕ) → DiametersOk d → d ≡ Measured a b c → (300 ≤ a + b + c) × (a + b + c ≤ 3000)
-sum_range a b c ok e = let each = ok.measured a b c e in (omega (arith, each), omega (arith, each))
+pub sum_range : {d : Option Diameters} (n : Diameters) → DiametersOk d → d ≡ Some n → (300 ≤ n.first + n.second + n.third) × (n.first + n.second + n.third ≤ 3000)
+sum_range n ok e = let each = ok.measured n e in (omega (arith, each), omega (arith, each))
 
 pub square_most : {s : ℕ} → s ≤ 3000 → s * s ≤ 9000000
 square_most h = mul-le-mul h h
@@ -49,9 +49,6 @@ rinse_most ok = within_greatest _ _ _ ok.rinse
 
 pub density_product : {a : Acetone} → AcetoneOk a → a.rinse * a.density ≤ 9999000
 density_product ok = mul-le-mul (rinse_most ok) (within_greatest _ _ _ ok.density)
-
-pub residue_product : {a : Acetone} → a.residue ≤ 65535 → AcetoneOk a → a.residue * a.rinse ≤ 65535000
-residue_product h ok = mul-le-mul h (rinse_most ok)
 
 pub deduction_most : (a : Acetone) → AcetoneOk a → deduction a ≤ 99
 unfolding deduction

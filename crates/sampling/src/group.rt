@@ -15,7 +15,8 @@ use stack::Stack;
 use values::Diameters;
 
 // From the run, its lines 1 to 15 and its nozzle's diameters.
-pub fn sampling(run: Run, m: Metering, s: Stack, nozzle: Diameters) -> Sampling
+#[tactic(auto, using(crate::proofs::RunInRange::weighings_few))]
+pub fn sampling(run: Run, m: Metering, s: Stack, nozzle: Option<Diameters>) -> Sampling
     requires run { RunOk run }
     requires metering { MeteringOk m }
     requires stack { StackOk s }
@@ -23,18 +24,15 @@ pub fn sampling(run: Run, m: Metering, s: Stack, nozzle: Diameters) -> Sampling
     ensures { (result ≡ sampling run m s nozzle) × SamplingOk result }
 {
     let header = run.header;
-    let weighings = run.weighings;
-    let acetone = header.acetone;
-    let dry = m.dry;
-    let velocity = s.velocity;
+    let weighings = &run.weighings[..header.counts.weighings as usize];
     let area = nozzle_area(nozzle);
-    let drawn = drawn_gas(dry, m.vapor, s.pressure, s.temperature);
-    let caught = catch(weighings, header.counts.weighings as usize, acetone);
+    let drawn = drawn_gas(m.dry, m.vapor, s.pressure, s.temperature);
+    let caught = catch(weighings, header.acetone);
     Sampling {
         area,
         drawn,
-        isokinetic: isokinetic(drawn, velocity, area, m.time),
+        isokinetic: isokinetic(drawn, s.velocity, area, m.time),
         catch: caught,
-        concentration: concentration(caught, dry),
+        concentration: concentration(caught, m.dry),
     }
 }

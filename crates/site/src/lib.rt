@@ -76,14 +76,13 @@ pub fn disturbed(site: Site) -> Ground
 }
 
 // At least 8 diameters from the last disturbance and 2 to the next.
+#[tactic(auto, unfolding(crate::specs::Site::undisturbed))]
 fn undisturbed(site: Site) -> bool
     ensures { result ≡ undisturbed site }
 {
     let d = diameter(site);
-    if site.last as u64 * d.under < FAR_LAST * d.over {
-        return false;
-    }
-    FAR_NEXT * d.over <= site.next as u64 * d.under
+    FAR_LAST * d.over <= site.last as u64 * d.under
+        && FAR_NEXT * d.over <= site.next as u64 * d.under
 }
 
 // Above 24 in: 24 in itself is not.
@@ -95,26 +94,26 @@ fn wide(site: Site) -> bool
 }
 
 // The allowed number of points from n on: of a round stack the next multiple of 4, of a rectangular one the next grid.
+#[tactic(auto, unfolding(crate::specs::Site::next_allowed))]
 pub fn next_allowed(shape: u8, n: u8) -> u64
     ensures { result ≡ next_allowed shape n }
 {
     if shape == Shape::ROUND {
-        return (n as u64 + 3) / 4 * 4;
+        (n as u64 + 3) / 4 * 4
+    } else {
+        GridPoints::next(n as u64)
     }
-    GridPoints::next(n as u64)
 }
 
 // The least number of points at a site that is not undisturbed: what the figure asks for, raised to an allowed number, or the
 // house's own where there is no figure.
+#[tactic(auto, unfolding(crate::specs::Site::minimum_disturbed))]
 fn minimum_disturbed(figure: Figure, site: Site) -> u64
     ensures { result ≡ minimum_disturbed figure site }
 {
-    let last = figure.last;
-    let first = last[0];
-    if first.round != 0 {
-        return next_allowed(site.shape, steps::asked(figure, site));
-    }
-    if site.shape == Shape::ROUND {
+    if figure.last[0].round != 0 {
+        next_allowed(site.shape, steps::asked(figure, site))
+    } else if site.shape == Shape::ROUND {
         LeastPoints::DISTURBED_ROUND
     } else {
         LeastPoints::DISTURBED_RECTANGULAR
@@ -122,16 +121,15 @@ fn minimum_disturbed(figure: Figure, site: Site) -> u64
 }
 
 // The least number of points at a site.
+#[tactic(auto, unfolding(crate::specs::Site::minimum_points))]
 pub fn minimum_points(figure: Figure, site: Site) -> u64
     ensures { result ≡ minimum_points figure site }
 {
     if !undisturbed(site) {
-        return minimum_disturbed(figure, site);
-    }
-    if wide(site) {
-        return LeastPoints::WIDE;
-    }
-    if site.shape == Shape::ROUND {
+        minimum_disturbed(figure, site)
+    } else if wide(site) {
+        LeastPoints::WIDE
+    } else if site.shape == Shape::ROUND {
         LeastPoints::ROUND
     } else {
         LeastPoints::RECTANGULAR

@@ -6,3 +6,4 @@ pub mod Roots
 pub mod Passes
 pub mod Cases
 pub mod Together
+pub mod Taken

@@ -15,9 +15,6 @@ wet_least w h = mul-le-mul h (le_refl (100000 - w))
 pub density_divisor : {p w : ℕ} → 177941 ≤ p → 18000 ≤ w → 3202938000 ≤ p * w
 density_divisor hp hw = mul-le-mul hp hw
 
-pub density_divisor_most : {p w : ℕ} → p ≤ 342059 → w ≤ 44000 → p * w ≤ 15050596000
-density_divisor_most hp hw = mul-le-mul hp hw
-
 -- Line 15
 pub velocity_product : {k mean : ℕ} → k ≤ greatest_coefficient → mean ≤ greatest_root → 8549 * k * mean ≤ 8549 * greatest_coefficient * greatest_root
 velocity_product hk hm = mul-le-mul (mul-le-mul_left 8549 hk) hm

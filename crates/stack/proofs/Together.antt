@@ -1,14 +1,14 @@
 -- Lines 9 to 15, each from the ones before it.
+use Rattle.std.specs.Prelude.{Option}
 use Prim.Native.Nat.{ℕ}
 use mathlib.Core.Path.{◌≡◌}
 use mathlib.Core.List.{List}
 use lib.IntN.{ℤ}
 use Rattle.records.specs.declared.Point.{Point}
-use Rattle.values.specs.declared.Value.{Value}
 use Rattle.stack.specs.declared.Stack.{Stack}
 use Rattle.stack.specs.Stack.{dry_weight, wet_weight, stack_pressure, stack_temperature, mean_root, density_root, velocity, stack}
 
-pub is_stack : (co2 o2 : ℕ) (m : Value) (pb : ℕ) (pg : ℤ) (points : List Point) (n : ℕ) (cp : Value) {dry pressure temperature root : ℕ} {wet density speed : Value} →
+pub is_stack : (co2 o2 : ℕ) (m : Option ℕ) (pb : ℕ) (pg : ℤ) (points : List Point) (n : ℕ) (cp : Option ℕ) {dry pressure temperature root : ℕ} {wet density speed : Option ℕ} →
     dry ≡ dry_weight co2 o2 →
     wet ≡ wet_weight dry m →
     pressure ≡ stack_pressure pb pg →

@@ -1,10 +1,9 @@
--- The step that a distance takes, for the loop that tries each in turn; and the higher of two numbers.
-use Prim.Native.Nat.{ℕ, ◌+◌, ◌≤◌, ◌<◌, max}
+-- The step that a distance takes, for the loop that tries each in turn.
+use Prim.Native.Nat.{ℕ, ◌+◌}
 use mathlib.Core.Path.{◌≡◌, refl}
 use mathlib.Core.Bool.{Bool, true, false}
 use mathlib.Core.List.{List}
 use native.Mathlib.Numerals.{add-one}
-use native.Mathlib.Omega.{arith}
 use Rattle.steps.specs.declared.Step.{Step}
 use Rattle.steps.specs.Steps.{step_of, last_reached}
 
@@ -23,11 +22,3 @@ module _ (is_reached : Step → Bool) (l : List Step) where
   pub taken_passed : (i : ℕ) {step : Step} → step ≡ last_reached is_reached l i → is_reached (step_of l i) ≡ false → step ≡ last_reached is_reached l (i + 1)
   unfolding last_reached
   taken_passed i e f = rw (add-one, f) e
-
--- The higher of two numbers, by how they compare
-
-pub higher_right : {a b l r : ℕ} → a ≡ l → b ≡ r → a < b → b ≡ max l r
-higher_right e f h = omega (arith, e, f, h)
-
-pub higher_left : {a b l r : ℕ} → a ≡ l → b ≡ r → b ≤ a → a ≡ max l r
-higher_left e f h = omega (arith, e, f, h)

@@ -11,6 +11,7 @@ use Rattle.steps.specs.declared.Figure.{Figure}
 abbrev pub no_step : Step
 no_step = record { least = 0; round = 0; rectangular = 0 }
 
+-- a place with points holds a step
 abbrev pub is_step : Step → Bool
 is_step step = not (eqb step.round 0)
 

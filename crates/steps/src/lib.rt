@@ -9,6 +9,7 @@ ghost use Rattle.steps.specs.Steps.{no_figure, reaches, taken, points_for, asked
 
 use diameters::{Length, diameter};
 use readings::figures::StepCount;
+use readings::range::Reading;
 use readings::runs::Shape;
 use records::Site;
 
@@ -32,6 +33,7 @@ pub struct Figure {
 }
 
 // No figure.
+#[tactic(auto, unfolding(crate::specs::Steps::no_figure))]
 pub fn none() -> Figure
     ensures { result ≡ no_figure }
 {
@@ -47,28 +49,24 @@ pub fn none() -> Figure
 }
 
 // Whether a distance of the site reaches a step: hundredths of a diameter against the distance itself, cross-multiplied.
+#[tactic(auto, unfolding(crate::specs::Steps::reaches))]
 fn reaches(site: Site, distance: u16, step: Step) -> bool
     ensures { result ≡ reaches (diameter site) distance step }
 {
-    if step.round == 0 {
-        return false;
-    }
     let d = diameter(site);
-    step.least as u64 * d.over <= 100 * (distance as u64 * d.under)
+    step.round != 0 && step.least as u64 * d.over <= 100 * (distance as u64 * d.under)
 }
 
 // The last step that the distance reaches, or the first if it reaches none.
+#[tactic(auto, using(crate::proofs::Taking::taken_none, crate::proofs::Taking::taken_reached, crate::proofs::Taking::taken_passed))]
 fn taken(site: Site, distance: u16, steps: [Step; PLACES]) -> Step
     ensures { result ≡ taken (diameter site) distance steps }
 {
     let mut step = steps[0];
-    let mut i = 0;
-    while i < PLACES {
-        let later = steps[i];
+    for later in steps {
         if reaches(site, distance, later) {
             step = later;
         }
-        i += 1;
     }
     step
 }
@@ -78,22 +76,18 @@ fn points_for(site: Site, step: Step) -> u8
     ensures { result ≡ points_for site step }
 {
     if site.shape == Shape::ROUND {
-        return step.round;
+        step.round
+    } else {
+        step.rectangular
     }
-    step.rectangular
 }
 
 // The points that a figure asks for at a site: of the steps that the two distances take, the higher number.
+#[tactic(auto, unfolding(crate::specs::Steps::asked))]
 pub fn asked(figure: Figure, site: Site) -> u8
     ensures { result ≡ asked figure site }
 {
-    let last = figure.last;
-    let next = figure.next;
-    let from_last = points_for(site, taken(site, site.last, last));
-    let to_next = points_for(site, taken(site, site.next, next));
-    if from_last < to_next {
-        to_next
-    } else {
-        from_last
-    }
+    let from_last = points_for(site, taken(site, site.last, figure.last));
+    let to_next = points_for(site, taken(site, site.next, figure.next));
+    from_last.max(to_next)
 }

@@ -1,4 +1,5 @@
 -- How long a text can be: a line, a finding, a run.
+use Rattle.std.specs.Prelude.{Option, Some, None, ℤ}
 use Prim.Native.Nat.{ℕ, ◌+◌, ◌-◌, ◌≤◌, ◌<◌}
 use mathlib.Core.Path.{refl}
 use mathlib.Core.Bool.{Bool, true, false, cond}
@@ -14,12 +15,12 @@ use Rattle.arrays.specs.Arrays.{filled_to}
 use Rattle.records.specs.declared.Run.{Run}
 use Rattle.records.specs.InRange.{RunOk}
 use Rattle.lines.specs.declared.Entry.{Entry}
-use Rattle.lines.specs.declared.Line.{Line}
-use Rattle.lines.specs.declared.Line.TheVariants.{Present, Absent}
 use Rattle.lines.specs.declared.Sheet.{Sheet}
 use Rattle.lines.specs.Sheet.{line_count}
 use Rattle.choosing.specs.declared.Chosen.{Chosen}
 use Rattle.findings.specs.declared.Finding.{Finding}
+use Rattle.classes.specs.declared.Class.{Class}
+use Rattle.classes.specs.declared.Class.TheVariants.{Fault, Note}
 use Rattle.classes.specs.Classes.{places_of, place_at}
 use Rattle.steps.specs.declared.Figure.{Figure}
 use Rattle.findings.specs.Listing.{no_finding, most_findings, listed, findings_for, lines_for, Breaks}
@@ -35,10 +36,10 @@ use Rattle.text.specs.Runs.{class_name, finding_text, findings_text, standing, r
 
 -- A sheet
 
-value_short : (line : Line) → length (value_text line) ≤ 21
+value_short : (line : Option ℤ) → length (value_text line) ≤ 21
 unfolding value_text
-value_short (Present z) = signed_short z
-value_short Absent = omega arith
+value_short (Some z) = signed_short z
+value_short None = omega arith
 
 line_short : (number : ℕ) (entry : Entry) → number < 100 → length (line_text number entry) ≤ 25
 unfolding line_text
@@ -55,9 +56,10 @@ sheet_short sheet = joined_short (line_at sheet.entries) line_count 25 (λ i ins
 
 -- Findings
 
-class_short : (class : ℕ) → length (class_name class) ≤ 6
+class_short : (class : Class) → length (class_name class) ≤ 6
 unfolding class_name spelled
-class_short class = either_short (eqb class 1) _ _ 6 (omega arith) (omega arith)
+class_short Fault = omega arith
+class_short Note = omega arith
 
 finding_short : (f : Finding) → f.rule < 100 → f.place < 100 → length (finding_text f) ≤ 12
 unfolding finding_text

@@ -1,8 +1,6 @@
 -- The twenty lines of a sheet as characters: number, value and the end of the line.
-use Rattle.std.specs.Prelude.{ℕ, ◌+◌, List, [], ◌∷◌, ◌++◌, get_or}
+use Rattle.std.specs.Prelude.{Option, Some, None, ℤ, ℕ, ◌+◌, List, [], ◌∷◌, ◌++◌, get_or}
 use Rattle.lines.specs.declared.Entry.{Entry}
-use Rattle.lines.specs.declared.Line.{Line}
-use Rattle.lines.specs.declared.Line.TheVariants.{Present, Absent}
 use Rattle.lines.specs.declared.Sheet.{Sheet}
 use Rattle.lines.specs.Sheet.{no_entry, line_count}
 use Rattle.characters.specs.Numbers.{decimal, signed_decimal}
@@ -19,9 +17,9 @@ abbrev pub newline : List ℕ
 newline = 10 ∷ []
 
 -- a line's value, or a dash where it is absent
-unfoldable pub value_text : Line → List ℕ
-value_text (Present z) = signed_decimal z
-value_text Absent = dash
+unfoldable pub value_text : Option ℤ → List ℕ
+value_text (Some z) = signed_decimal z
+value_text None = dash
 
 -- a line: its number, a space, its value
 unfoldable pub line_text : ℕ → Entry → List ℕ

@@ -1,75 +1,71 @@
 // The findings of a run, and a run as a whole.
 
-ghost use Rattle.std.specs.Prelude.{◌≤◌};
+ghost use Rattle.std.specs.Prelude.{◌≤◌, length};
 ghost use Rattle.findings.specs.Listing.{most_findings};
 ghost use Rattle.characters.specs.Writing.{Room, Wrote};
 ghost use Rattle.text.specs.Runs.{class_name, finding_text, findings_text, standing, run_text};
 
 use crate::sheets::put_sheet;
-use characters::{put_decimal, put_word};
-use findings::{Finding, Findings};
+use characters::Writer;
+use classes::Class;
+use findings::Finding;
 use reduction::Reduced;
 
 // What a finding is: a fault or a note.
-fn put_class(out: &mut [u8], at: usize, class: u8) -> usize
-    requires { Room out.old at (class_name class) }
-    ensures { Wrote out.old at (class_name class) out.new result }
+#[tactic(auto, unfolding(crate::specs::Runs::class_name, characters::specs::Words::spelled))]
+fn put_class(to: &mut Writer<'_>, class: Class)
+    requires { Room to.old (class_name class) }
+    ensures { Wrote to.old (class_name class) to.new }
 {
-    if class == classes::FAULT {
-        return put_word(out, at, b"FAULT ");
+    match class {
+        Class::Fault => to.word(b"FAULT "),
+        Class::Note => to.word(b"NOTE "),
     }
-    put_word(out, at, b"NOTE ")
 }
 
 // A finding: what it is, its rule and its place.
-pub fn put_finding(out: &mut [u8], at: usize, f: Finding) -> usize
-    requires { Room out.old at (finding_text f) }
-    ensures { Wrote out.old at (finding_text f) out.new result }
+pub fn put_finding(to: &mut Writer<'_>, f: Finding)
+    requires { Room to.old (finding_text f) }
+    ensures { Wrote to.old (finding_text f) to.new }
 {
-    let a = put_class(out, at, f.class);
-    let b = put_decimal(out, a, f.rule as u64);
-    let c = put_word(out, b, b" ");
-    let d = put_decimal(out, c, f.place as u64);
-    put_word(out, d, b"\n")
+    put_class(to, f.class);
+    to.decimal(f.rule as u64);
+    to.word(b" ");
+    to.decimal(f.place as u64);
+    to.word(b"\n");
 }
 
 // All findings, in order.
-fn put_findings(out: &mut [u8], at: usize, found: Findings) -> usize
-    requires { (found.count ≤ most_findings) × Room out.old at (findings_text found.list found.count) }
-    ensures { Wrote out.old at (findings_text found.list found.count) out.new result }
+fn put_findings(to: &mut Writer<'_>, found: &[Finding])
+    requires { Room to.old (findings_text found.now (length found.now)) }
+    ensures { Wrote to.old (findings_text found.now (length found.now)) to.new }
 {
-    let list = found.list;
-    let count = found.count;
-    let mut next = at;
-    let mut i: usize = 0;
-    while i < count {
-        next = put_finding(out, next, list[i]);
-        i += 1;
+    for f in found {
+        put_finding(to, *f);
     }
-    next
 }
 
 // Whether the run stands.
-fn put_standing(out: &mut [u8], at: usize, accepted: bool) -> usize
-    requires { Room out.old at (standing accepted) }
-    ensures { Wrote out.old at (standing accepted) out.new result }
+fn put_standing(to: &mut Writer<'_>, accepted: bool)
+    requires { Room to.old (standing accepted) }
+    ensures { Wrote to.old (standing accepted) to.new }
 {
     if accepted {
-        return put_word(out, at, b" ACCEPTED\n");
+        to.word(b" ACCEPTED\n");
+    } else {
+        to.word(b" VOID\n");
     }
-    put_word(out, at, b" VOID\n")
 }
 
 // A run: its number and whether it stands, its twenty lines, its findings.
-pub fn put_run(out: &mut [u8], at: usize, r: Reduced) -> usize
-    requires { (r.findings.count ≤ most_findings) × Room out.old at (run_text r) }
-    ensures { Wrote out.old at (run_text r) out.new result }
+pub fn put_run(to: &mut Writer<'_>, r: Reduced)
+    requires { (r.findings.count ≤ most_findings) × Room to.old (run_text r) }
+    ensures { Wrote to.old (run_text r) to.new }
 {
-    let sheet = r.sheet;
-    let found = r.findings;
-    let a = put_word(out, at, b"RUN ");
-    let b = put_decimal(out, a, r.number as u64);
-    let c = put_standing(out, b, r.accepted);
-    let d = put_sheet(out, c, sheet);
-    put_findings(out, d, found)
+    let found = &r.findings.list[..r.findings.count];
+    to.word(b"RUN ");
+    to.decimal(r.number as u64);
+    put_standing(to, r.accepted);
+    put_sheet(to, r.sheet);
+    put_findings(to, found);
 }

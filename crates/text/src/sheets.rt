@@ -3,43 +3,37 @@
 ghost use Rattle.characters.specs.Writing.{Room, Wrote};
 ghost use Rattle.text.specs.Sheets.{value_text, line_text, sheet_text};
 
-use characters::{put_decimal, put_signed, put_word};
-use lines::{Entry, LINES, Line, Sheet};
+use characters::Writer;
+use lines::{Entry, LINES, Sheet};
 
 // A line's value, or a dash where it is absent.
-fn put_value(out: &mut [u8], at: usize, line: Line) -> usize
-    requires { Room out.old at (value_text line) }
-    ensures { Wrote out.old at (value_text line) out.new result }
+fn put_value(to: &mut Writer<'_>, line: Option<i64>)
+    requires { Room to.old (value_text line) }
+    ensures { Wrote to.old (value_text line) to.new }
 {
-    let Line::Present(value) = line else {
-        return put_word(out, at, b"-");
-    };
-    put_signed(out, at, value)
+    match line {
+        Some(value) => to.signed(value),
+        None => to.word(b"-"),
+    }
 }
 
 // A line's number, its value and the end of the line.
-fn put_line(out: &mut [u8], at: usize, number: u64, entry: Entry) -> usize
-    requires { Room out.old at (line_text number entry) }
-    ensures { Wrote out.old at (line_text number entry) out.new result }
+fn put_line(to: &mut Writer<'_>, number: u64, entry: Entry)
+    requires { Room to.old (line_text number entry) }
+    ensures { Wrote to.old (line_text number entry) to.new }
 {
-    let line = entry.line;
-    let a = put_decimal(out, at, number);
-    let b = put_word(out, a, b" ");
-    let c = put_value(out, b, line);
-    put_word(out, c, b"\n")
+    to.decimal(number);
+    to.word(b" ");
+    put_value(to, entry.line);
+    to.word(b"\n");
 }
 
 // All twenty.
-pub fn put_sheet(out: &mut [u8], at: usize, sheet: Sheet) -> usize
-    requires { Room out.old at (sheet_text sheet) }
-    ensures { Wrote out.old at (sheet_text sheet) out.new result }
+pub fn put_sheet(to: &mut Writer<'_>, sheet: Sheet)
+    requires { Room to.old (sheet_text sheet) }
+    ensures { Wrote to.old (sheet_text sheet) to.new }
 {
-    let entries = sheet.entries;
-    let mut next = at;
-    let mut i: usize = 0;
-    while i < LINES {
-        next = put_line(out, next, i as u64 + 1, entries[i]);
-        i += 1;
+    for i in 0..LINES {
+        put_line(to, i as u64 + 1, sheet.entries[i]);
     }
-    next
 }

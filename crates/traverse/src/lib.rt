@@ -13,6 +13,7 @@ use distances::diameters::distance;
 use grids::GridPoints;
 use readings::certificates::NozzleDiameter;
 use readings::layouts::{DiameterPoints, LayoutDiameter};
+use readings::range::Reading;
 use readings::runs::Side;
 
 // The most distances of a layout: two for each of 49 points.
@@ -63,10 +64,8 @@ pub fn round(points: u16, diameter: u16, nozzle: u16) -> Layout
 {
     let n = points as usize;
     let mut distances = [0u32; MOST_DISTANCES];
-    let mut i: usize = 0;
-    while i < n {
+    for i in 0..n {
         distances[i] = distance(points as u64, diameter as u64, nozzle as u64, i as u64 + 1) as u32;
-        i += 1;
     }
     Layout {
         count: n,
@@ -84,16 +83,12 @@ pub fn rectangle(points: u16, first: u16, second: u16) -> Layout
     let rows = second_cells(points, first, second);
     let mut distances = [0u32; MOST_DISTANCES];
     let mut at: usize = 0;
-    let mut j: u64 = 0;
-    while j < rows {
-        let mut i: u64 = 0;
-        while i < columns {
+    for j in 0..rows {
+        for i in 0..columns {
             distances[at] = center(first as u64, columns, i + 1) as u32;
             distances[at + 1] = center(second as u64, rows, j + 1) as u32;
             at += 2;
-            i += 1;
         }
-        j += 1;
     }
     Layout {
         count: at,

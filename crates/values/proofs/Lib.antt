@@ -2,3 +2,4 @@
 pub mod Promise
 pub mod Signs
 pub mod Sums
+pub mod Taken

@@ -1,5 +1,6 @@
-// What every group of lines shares: a value that may be missing, a ratio, a nozzle's diameters, and the sum that a signed
-// reading is part of. The shapes of a line's promise stand in specs, their laws in proofs; nothing here belongs to one group of lines.
+// What every group of lines shares: a line that is judged before it is rounded, a nozzle's diameters, and the sum that a signed
+// reading is part of. What a line is worked from is an `Option`: `None` where a certificate is missing, or a line that it needs.
+// The shapes of a line's promise stand in specs, their laws in proofs; nothing here belongs to one group of lines.
 
 #![tactic(auto)]
 
@@ -10,35 +11,17 @@ ghost use Rattle.values.specs.Promise.{rounded_ratio};
 
 use arith::Division;
 
-// A number that a line is worked from: known, or missing where a certificate or an earlier line is.
+// A nozzle's three diameters, 0.001 in.
 #[derive(Clone, Copy)]
-pub enum Value {
-    Known(u64),
-    Missing,
+pub struct Diameters {
+    pub first: u64,
+    pub second: u64,
+    pub third: u64,
 }
 
-// A line that is judged before it is rounded: the division that it is, or unworked where a line that it needs is missing.
-#[derive(Clone, Copy)]
-pub enum Ratio {
-    Exact(Division),
-    Unworked,
-}
-
-impl Ratio {
-    // The line as it is written, rounded.
-    pub fn rounded(self) -> Value
-        ensures { result ≡ rounded_ratio self }
-    {
-        let Ratio::Exact(division) = self else {
-            return Value::Missing;
-        };
-        Value::Known(division.rounded)
-    }
-}
-
-// A nozzle's three diameters, 0.001 in, where its certificate was found.
-#[derive(Clone, Copy)]
-pub enum Diameters {
-    Measured(u64, u64, u64),
-    Unknown,
+// A line that is judged before it is rounded, as it is written.
+pub fn rounded(line: Option<Division>) -> Option<u64>
+    ensures { result ≡ rounded_ratio line }
+{
+    Some(line?.rounded)
 }

@@ -4,12 +4,11 @@
 
 ghost use Rattle.std.specs.Prelude.{◌≡◌, ◌+◌, ◌*◌, ◌≤◌, length};
 ghost use Rattle.output.specs.Splice.{spliced};
-ghost use Rattle.findings.specs.Listing.{most_findings};
 ghost use Rattle.writing.specs.Bytes.{line_size, sheet_size, finding_size, entry_bytes, sheet_bytes, finding_bytes, findings_bytes};
 
-use findings::{Finding, Findings};
-use lines::{Entry, LINES, Line, Sheet};
-use output::{put_byte, put_number, signed_bits};
+use findings::Finding;
+use lines::{Entry, LINES, Sheet};
+use output::{put_byte, put_number};
 
 pub const LINE_SIZE: usize = 9;
 
@@ -22,10 +21,9 @@ pub fn put_entry(out: &mut [u8], at: usize, entry: Entry)
     requires { at + line_size ≤ length out.old }
     ensures { out.new ≡ spliced out.old at (entry_bytes entry) }
 {
-    let line = entry.line;
-    if let Line::Present(value) = line {
+    if let Some(value) = entry.line {
         put_byte(out, at, 1);
-        put_number(out, at + 1, 8, signed_bits(value));
+        put_number(out, at + 1, 8, value.cast_unsigned());
     } else {
         put_byte(out, at, 0);
         put_number(out, at + 1, 8, 0);
@@ -37,11 +35,8 @@ pub fn put_sheet(out: &mut [u8], sheet: Sheet)
     requires { sheet_size ≤ length out.old }
     ensures { out.new ≡ spliced out.old 0 (sheet_bytes sheet) }
 {
-    let entries = sheet.entries;
-    let mut i: usize = 0;
-    while i < LINES {
-        put_entry(out, LINE_SIZE * i, entries[i]);
-        i += 1;
+    for i in 0..LINES {
+        put_entry(out, LINE_SIZE * i, sheet.entries[i]);
     }
 }
 
@@ -51,20 +46,16 @@ pub fn put_finding(out: &mut [u8], at: usize, f: Finding)
     ensures { out.new ≡ spliced out.old at (finding_bytes f) }
 {
     put_byte(out, at, f.rule);
-    put_byte(out, at + 1, f.class);
+    put_byte(out, at + 1, f.class.number());
     put_number(out, at + 2, 2, f.place as u64);
 }
 
 // The findings from the front of a buffer.
-pub fn put_findings(out: &mut [u8], found: Findings)
-    requires { (found.count ≤ most_findings) × (finding_size * found.count ≤ length out.old) }
-    ensures { out.new ≡ spliced out.old 0 (findings_bytes found.list found.count) }
+pub fn put_findings(out: &mut [u8], found: &[Finding])
+    requires { finding_size * length found.now ≤ length out.old }
+    ensures { out.new ≡ spliced out.old 0 (findings_bytes found.now (length found.now)) }
 {
-    let list = found.list;
-    let count = found.count;
-    let mut i: usize = 0;
-    while i < count {
-        put_finding(out, FINDING_SIZE * i, list[i]);
-        i += 1;
+    for (i, f) in found.iter().enumerate() {
+        put_finding(out, FINDING_SIZE * i, *f);
     }
 }

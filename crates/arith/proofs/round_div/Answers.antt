@@ -5,4 +5,4 @@ use Rattle.arith.proofs.round_div.Goals as goal
 
 pub returns : goal.returns
 unfolding division
-returns c = ap (λ x. x.rounded) c.divide-divided.ensures
+returns c = ap (λ x. x.rounded) c.divide.ensures

@@ -1,39 +1,42 @@
 -- Each way through the call is what came of its case.
-use mathlib.Core.Path.{◌∙◌, sym}
-use native.Mathlib.Omega.{arith}
-use Rattle.job.proofs.ReadJobs.{read_clear, count_of_runs, place_fits}
+use Rattle.std.proofs.Common.{◌≡◌, Some, ◌∙◌, sym}
+use Rattle.job.proofs.ReadJobs.{count_of_runs, place_fits}
 use Rattle.reduction.specs.Reducing.{ClearRun}
 use Rattle.reduction.proofs.Naming.{found_inside}
+use Rattle.output.proofs.Refusals.{file_told, call_told, none_there, some_there}
 use Rattle.asking.proofs.Outcomes.{refused_by_reader, no_run, no_finding_lem, one_finding}
 use Rattle.asking.proofs.explain.Goals as goal
-use Rattle.asking.proofs.explain.Goals.{In-Index}
+use Rattle.asking.proofs.explain.Goals.{In_ok-k}
 
-found : (c : In-Index) → ClearRun c.args.job.now c.read-read.result c.in-Index.k
+-- the run is one of the job's
+named : (c : In_ok-k) → c.find_run.result ≡ Some c.in_ok-k.k
+named c = some_there c.find_run.result _ c.in_ok-k.ensures.value
+
+found : (c : In_ok-k) → ClearRun c.args.job.now c.in_ok-read.read c.in_ok-k.k
 found c =
-    let job = (read_clear _ c.read-read.ensures c.in_default.is) in
-    let named = sym c.find_run-which.ensures ∙ c.in-Index.is in
-    record { job = job; inside = rw (count_of_runs _ _ job) at (found_inside _ _ _ named) }
+    let job = c.in_ok-read.ensures in
+    record { job = job; inside = rw (count_of_runs _ _ job) at (found_inside _ _ _ (sym c.find_run.ensures ∙ named c)) }
 
-pub overflow_cast-result : goal.overflow_cast-result
-overflow_cast-result c = omega (arith, place_fits _ c.read-read.ensures c.in-At.is)
+pub returns-in_err-read : goal.returns-in_err-read
+returns-in_err-read c =
+    let met = c.in_err-read.ensures in
+    rw (file_told _ _ (place_fits _ met) c.from_residual.ensures.1) (refused_by_reader _ _ _ _ _ _ _ met)
 
-pub returns-in-At : goal.returns-in-At
-returns-in-At c = refused_by_reader _ _ _ _ _ _ _ c.read-read.ensures c.in-At.is
+pub returns-in_err-k : goal.returns-in_err-k
+returns-in_err-k c =
+    let (none, why) = none_there c.find_run.result _ c.in_err-k.ensures.value in
+    rw (call_told _ _ c.from_residual-in_err-k.ensures.1, why)
+    (no_run _ _ _ _ _ _ _ _ c.in_ok-read.ensures c.find_run.ensures none)
 
-pub find_run-which-requires : goal.find_run-which-requires
-find_run-which-requires c = (read_clear _ c.read-read.ensures c.in_default.is)
+pub explain_run-requires : goal.explain_run-requires
+explain_run-requires c = found (goal.at.explain_run-requires c).In_ok-k
 
-pub returns-in_default-which : goal.returns-in_default-which
-returns-in_default-which c =
-    no_run _ _ _ _ _ _ _ _ ((read_clear _ c.read-read.ensures c.in_default.is)) c.find_run-which.ensures c.in_default-which.is
-
-pub explain_run-explained-requires : goal.explain_run-explained-requires
-explain_run-explained-requires c = found c
-
-pub returns-in_default-explained : goal.returns-in_default-explained
-returns-in_default-explained c =
-    no_finding_lem _ _ _ _ _ _ _ _ ((read_clear _ c.read-read.ensures c.in_default.is)) c.find_run-which.ensures c.in-Index.is c.explain_run-explained.ensures c.in_default-explained.is
+pub returns-in_err-e : goal.returns-in_err-e
+returns-in_err-e c =
+    let (none, why) = none_there c.explain_run.result _ c.in_err-e.ensures.value in
+    rw (call_told _ _ c.from_residual-in_err-e.ensures.1, why)
+    (no_finding_lem _ _ _ _ _ _ _ _ c.in_ok-read.ensures c.find_run.ensures (named (goal.at.returns-in_err-e c).In_ok-k) c.explain_run.ensures none)
 
 pub returns : goal.returns
 returns c =
-    one_finding _ _ _ _ _ _ _ _ ((read_clear _ c.read-read.ensures c.in_default.is)) c.find_run-which.ensures c.in-Index.is c.explain_run-explained.ensures c.in-Because.is c.hand_over.ensures
+    one_finding _ _ _ _ _ _ _ _ c.in_ok-read.ensures c.find_run.ensures (named (goal.at.returns c).In_ok-k) c.explain_run.ensures (some_there c.explain_run.result _ c.in_ok-e.ensures.value) c.put_by_way.ensures

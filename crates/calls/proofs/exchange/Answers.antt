@@ -11,8 +11,8 @@ given_ok (Err e) p f = p
 pub returns : goal.returns
 returns g c =
     let byte = byte_at c.args.header.now 1 in
-    let first : c.fill.new.output ≡ replicate (length c.answer.new.first) byte = c.fill.ensures ∙ ap (λ n. replicate n byte) (search rules) in
-    let second : c.fill-2.new.output ≡ replicate (length c.answer.new.second) byte = c.fill-2.ensures ∙ ap (λ n. replicate n byte) (search rules) in
+    let first : c.fill.new.self ≡ replicate (length c.answer.new.first) byte = c.fill.ensures.after (λ y h. h) ∙ ap (λ n. replicate n byte) (search rules) in
+    let second : c.fill-2.new.self ≡ replicate (length c.answer.new.second) byte = c.fill-2.ensures.after (λ y h. h) ∙ ap (λ n. replicate n byte) (search rules) in
     given_ok c.write_all-2.result c.write_all-2.ensures.bytes (λ last. record {
       between = g.R.Read.remaining c.read_full.new.input;
       figure_read = record { count = c.in_ok-read_full.field-0; within = c.in_ok-read_full.ensures.bound; bytes = c.in_ok-read_full.ensures.bytes; end = c.in_ok-read_full.ensures.end };

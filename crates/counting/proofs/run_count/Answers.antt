@@ -1,27 +1,16 @@
 -- The reader's refusal, or its count.
-use borrow.Author.Rules.{rules}
-use native.Mathlib.Omega.{arith}
-use Rattle.job.proofs.ReadJobs.{read_clear, few_runs, place_fits}
+use Rattle.std.proofs.Common.{◌∙◌, arith}
+use Rattle.job.proofs.ReadJobs.{few_runs, place_fits}
+use Rattle.output.proofs.Refusals.{file_told}
 use Rattle.counting.proofs.Counting.{count_refused, count_done}
 use Rattle.counting.proofs.run_count.Goals as goal
 
-pub read-read-requires : goal.read-read-requires
-read-read-requires c = search rules
-
-pub enum_known-trouble : goal.enum_known-trouble
-enum_known-trouble c = search rules
+pub returns-in_err-read : goal.returns-in_err-read
+returns-in_err-read c =
+    file_told _ _ (place_fits _ c.in_err-read.ensures) c.from_residual.ensures.1 ∙ count_refused _ c.in_err-read.ensures
 
 pub overflow_cast-result : goal.overflow_cast-result
-overflow_cast-result c = omega (arith, place_fits _ c.read-read.ensures c.in-At.is)
-
-pub returns-in-At : goal.returns-in-At
-returns-in-At c = count_refused _ c.read-read.ensures c.in-At.is
-
-pub enum_told-1 : goal.enum_told-1
-enum_told-1 c = search rules
-
-pub overflow_cast-result-2 : goal.overflow_cast-result-2
-overflow_cast-result-2 c = omega (arith, few_runs _ _ (read_clear _ c.read-read.ensures c.in_default.is))
+overflow_cast-result c = omega (arith, few_runs _ _ c.in_ok-read.ensures)
 
 pub returns : goal.returns
-returns c = count_done _ _ (read_clear _ c.read-read.ensures c.in_default.is)
+returns c = count_done _ _ c.in_ok-read.ensures

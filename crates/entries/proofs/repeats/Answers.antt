@@ -1,25 +1,20 @@
 -- The loop keeps that none of those passed is the same.
 use mathlib.Core.Path.{◌≡◌, ◌∙◌, ap}
-use native.Mathlib.Omega.{arith}
 use borrow.Author.Rules.{rules}
 use Rattle.entries.specs.Entries.{same_certificate}
 use Rattle.records.specs.declared.Certificate.{Certificate}
 use Rattle.heads.specs.Values.{certificate_of}
-use Rattle.heads.proofs.Places.{ends_before}
 use Rattle.entries.proofs.LookBack.{any_none, any_goes_on, any_stops, any_ends}
 use Rattle.entries.proofs.repeats.Goals as goal
 use Rattle.entries.proofs.repeats.Goals.{After-same}
 
 -- what was compared is the certificate at its place
-own : (c : After-same) → c.same.result ≡ same_certificate (certificate_of c.args.s.now c.loop-j.j) c.args.c
+own : (c : After-same) → c.same.result ≡ same_certificate (certificate_of c.args.earlier.file.bytes.now c.loop-j.j) c.args.c
 own c =
     c.same.ensures ∙ ap (λ (a : Certificate). same_certificate a c.args.c) c.nth.ensures
 
 pub loop-j-init : goal.loop-j-init
 loop-j-init c = (search rules, any_none _)
-
-pub nth-requires : goal.nth-requires
-nth-requires c = (c.requires.0, omega (arith, ends_before c.args.v _ _ c.loop-j-test.true, c.requires.1))
 
 pub returns-then-same : goal.returns-then-same
 returns-then-same c =

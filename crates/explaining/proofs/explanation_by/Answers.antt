@@ -6,32 +6,31 @@ use Rattle.reduction.proofs.ClearJobs.{workable}
 use Rattle.explaining.proofs.Because.{put_together}
 use Rattle.explaining.proofs.explanation_by.Goals as goal
 
-pub version-v-requires : goal.version-v-requires
-version-v-requires c =
+pub of-file-requires : goal.of-file-requires
+of-file-requires c =
     let ok = c.requires in
     omega (arith, (workable _ _ ok.job _ ok.inside).within)
 
-pub offset_bounds-starts-k : goal.offset_bounds-starts-k
-offset_bounds-starts-k c =
+pub offset_bounds-job-k : goal.offset_bounds-job-k
+offset_bounds-job-k c =
     let ok = c.requires in
     omega (arith, few_runs _ _ ok.job, count_of_runs _ _ ok.job, ok.inside)
 
-pub bounds-starts-k : goal.bounds-starts-k
-bounds-starts-k c =
+pub bounds-job-k : goal.bounds-job-k
+bounds-job-k c =
     let ok = c.requires in
     omega (arith, few_runs _ _ ok.job, count_of_runs _ _ ok.job, ok.inside)
 
 pub header-header-requires : goal.header-header-requires
 header-header-requires c =
     let ok = c.requires in
-    rw c.version-v.ensures (header_left _ _ (lies_within _ _ ok.job _ ok.inside) c.tail.ensures)
+    rw (c.of-file.result.said, c.of-file.ensures) (header_left _ _ (lies_within _ _ ok.job _ ok.inside) c.tail.ensures)
 
-pub days_of-requires : goal.days_of-requires
-days_of-requires c =
+pub invariant_of-all : goal.invariant_of-all
+invariant_of-all c =
     let ok = c.requires in
-    let version = c.version-v.ensures in
-    (version, rw version (workable _ _ ok.job _ ok.inside).within)
+    record { inside = rw (c.of-file.result.said, c.of-file.ensures) (workable _ _ ok.job _ ok.inside).within }
 
 pub returns : goal.returns
 returns c =
-    put_together _ _ _ c.requires c.version-v.ensures c.tail.ensures c.header-header.ensures c.class.ensures c.days_of.ensures
+    put_together _ _ _ c.requires (rw c.of-file.ensures at c.of-file.result.said) c.tail.ensures c.header-header.ensures c.class_of.ensures (rw c.of-file.ensures at c.days_of.ensures)

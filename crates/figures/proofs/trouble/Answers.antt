@@ -1,27 +1,30 @@
 -- Mark and version, both lists, and nothing behind them.
-use native.Mathlib.Omega.{arith}
-use Rattle.fields.proofs.FirstTrouble.{first_met, first_passed}
+use Rattle.fields.specs.Trouble.{checks, first}
+use Rattle.fields.proofs.Refusals.{refuses, passes}
 use Rattle.figures.proofs.Parts.{figure_parts}
 use Rattle.figures.proofs.trouble.Goals as goal
 
-pub returns-in_default : goal.returns-in_default
-returns-in_default c = rw (figure_parts c.args.s.now) (first_met _ c.opening_trouble-t.ensures c.in_default.is)
+pub returns-in_err-opening_trouble : goal.returns-in_err-opening_trouble
+returns-in_err-opening_trouble c =
+    rw (figure_parts c.args.s.now) (refuses _ _ _ c.from_residual.ensures.1 c.in_err-opening_trouble.ensures)
 
-pub returns-in_default-t : goal.returns-in_default-t
-returns-in_default-t c =
+pub returns-in_err-trouble : goal.returns-in_err-trouble
+returns-in_err-trouble c =
     rw (figure_parts c.args.s.now)
-    (first_passed c.opening_trouble-t.ensures c.in-Clear.is
-    (first_met _ c.trouble-t.ensures c.in_default-t.is))
+    (passes c.in_ok-opening_trouble.ensures
+    (refuses _ _ _ c.from_residual-in_err-trouble.ensures.1 c.in_err-trouble.ensures))
 
-pub trouble-t-requires-2 : goal.trouble-t-requires-2
-trouble-t-requires-2 c = omega (arith, c.end-next_at.ensures.near)
-
-pub end-end-requires : goal.end-end-requires
-end-end-requires c = omega (arith, c.end-next_at.ensures.near)
+pub returns-in_err-trouble-2 : goal.returns-in_err-trouble-2
+returns-in_err-trouble-2 c =
+    rw (figure_parts c.args.s.now)
+    (passes c.in_ok-opening_trouble.ensures
+    (passes c.in_ok-trouble.ensures
+    (rw (← c.end-next_at.ensures.end) (refuses _ _ _ c.from_residual-in_err-trouble-2.ensures.1 c.in_err-trouble-2.ensures))))
 
 pub returns : goal.returns
+unfolding checks first
 returns c =
     rw (figure_parts c.args.s.now)
-    (first_passed c.opening_trouble-t.ensures c.in-Clear.is
-    (first_passed c.trouble-t.ensures c.in-Clear-t.is
-    (rw (← c.end-next_at.ensures.end, ← c.end-end.ensures.end, ← c.trouble-t-2.ensures) c.unless.ensures)))
+    (passes c.in_ok-opening_trouble.ensures
+    (passes c.in_ok-trouble.ensures
+    (rw (← c.end-next_at.ensures.end, ← c.end-end.ensures.end) (passes c.in_ok-trouble-2.ensures c.check.ensures))))

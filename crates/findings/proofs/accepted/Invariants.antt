@@ -1,15 +1,10 @@
--- `accepted` is its definition. The invariant: none of the findings passed is a fault.
-use Prim.Native.Nat.{ℕ, ◌-◌, ◌≤◌, ◌<◌}
+-- None of the findings passed is a fault.
+use Prim.Native.Nat.{ℕ, ◌<◌}
 use mathlib.Core.Path.{◌≡◌}
 use lib.ListN.{get_or}
-use Rattle.classes.specs.Classes.{fault}
+use Rattle.classes.specs.declared.Class.TheVariants.{Fault}
 use Rattle.findings.specs.Listing.{no_finding}
 use Rattle.findings.proofs.accepted.Given as goal
 
-abbrev pub invariant-loop-i : goal.invariant-loop-i
-invariant-loop-i l =
-    (l.i ≤ l.count) × ((k : ℕ) → k < l.i → (get_or l.list k no_finding).class ≡ fault → ⊥)
-
-abbrev pub decreases-loop-i : goal.decreases-loop-i
-decreases-loop-i l =
-    l.count - l.i
+abbrev pub invariant-loop-f : goal.invariant-loop-f
+invariant-loop-f l = (k : ℕ) → k < l.f-index → (get_or l.findings k no_finding).class ≡ Fault → ⊥

@@ -29,9 +29,9 @@ broken_of run beside rule i = broken (ground_of (part_of run rule i) beside rule
 -- A turn of the inner loop, once the rule is judged
 
 -- the part that the rule looks at
-part_is : (c : After-broken) → c.match-rule-add1.part ≡ part_of c.args.run (c.loop-done.done + 1) c.loop-i.i
+part_is : (c : After-broken) → c.match-rule.part ≡ part_of c.args.run (c.loop-done.done + 1) c.loop-i.i
 part_is c =
-    elim c.match-rule-add1.branch [
+    elim c.match-rule.branch [
       | in-10 w ↦ w.part-is ∙ part_point _ _ w.in-10.is
       | in-11 w ↦ w.part-is ∙ part_segment _ _ w.in-11.is
       | in-17 w ↦ w.part-is ∙ part_weighing _ _ w.in-17.is
@@ -51,21 +51,21 @@ rule_in : (c : After-broken) → c.loop-done.done < last_rule
 rule_in c = omega (arith, c.loop-done-test.true, c.last-last.ensures, c.requires.seekable.last)
 
 place_in : (c : After-broken) → c.loop-i.i < places_of c.args.run.header.counts (c.loop-done.done + 1)
-place_in c = rw c.places-places.ensures at c.loop-i-test.true
+place_in c = rw c.places-i-end.ensures at c.loop-i-test.true
 
-place_above : (c : After-broken) → c.loop-i.i < places_from c.before-done.result c.args.run.header.counts (c.loop-done.done + 1)
-place_above c = rw (places_above _ _ _ c.loop-done.invariant.0) (place_in c)
+place_above : (c : After-broken) → c.loop-i.i < places_from c.before-before.result c.args.run.header.counts (c.loop-done.done + 1)
+place_above c = rw (places_above c.before-before.result _ _ c.loop-done.auto.done) (place_in c)
 
 -- what is entered when a turn begins
 entered :
     (c : After-broken)
-    → Entered (findings_to c.args.v (broken_of c.args.run c.beside_of-beside.result) (places_from c.before-done.result c.args.run.header.counts) c.loop-done.done ++ rule_findings c.args.v (broken_of c.args.run c.beside_of-beside.result (c.loop-done.done + 1)) (c.loop-done.done + 1) c.loop-i.i) c.loop-i.count c.loop-i.found.list
-entered c = c.loop-i.invariant.2 _ c.loop-done.invariant.3
+    → Entered (findings_to c.args.v (broken_of c.args.run c.beside_of-beside.result) (places_from c.before-before.result c.args.run.header.counts) c.loop-done.done ++ rule_findings c.args.v (broken_of c.args.run c.beside_of-beside.result (c.loop-done.done + 1)) (c.loop-done.done + 1) c.loop-i.i) c.loop-i.count c.loop-i.found.list
+entered c = c.loop-i.invariant.1 _ c.loop-done.invariant.1
 
 -- all of a run's findings fit
 fits :
     (c : After-broken)
-    → length (findings_to c.args.v (broken_of c.args.run c.beside_of-beside.result) (places_from c.before-done.result c.args.run.header.counts) last_rule) ≤ most_findings
+    → length (findings_to c.args.v (broken_of c.args.run c.beside_of-beside.result) (places_from c.before-before.result c.args.run.header.counts) last_rule) ≤ most_findings
 fits c = le_trans (fewer _ _ _ _ (places_fewer _ _) _) (all_fit_beside _ _ _ _ _ c.requires.worked c.beside_of-beside.ensures)
 
 -- a broken rule finds room
@@ -77,27 +77,24 @@ beside_of-beside-requires c = weighings_in _ _ c.requires.worked
 
 pub loop-done-init : goal.loop-done-init
 loop-done-init c = (
-  le_refl _,
-  omega (arith, c.requires.seekable.some, c.before-done.ensures, c.last-last.ensures),
   (λ rule above below. absurd (omega (arith, above, below))),
   rw (nothing_before _ _ _ _ _ (le_refl _)) (filled_none _ _),
 )
 
 pub loop-i-init : goal.loop-i-init
 loop-i-init c = (
-  omega arith,
   (λ i h. absurd (omega (arith, h))),
   (λ fs s. entered_first _ (broken_of c.args.run c.beside_of-beside.result) fs (c.loop-done.done + 1) s),
 )
 
 pub bounds-points-i : goal.bounds-points-i
-bounds-points-i c = point_in _ _ c.requires.worked c.in-10.is (rw c.places-places.ensures at c.loop-i-test.true)
+bounds-points-i c = point_in _ _ c.requires.worked c.in-10.is (rw c.places-i-end.ensures at c.loop-i-test.true)
 
 pub bounds-segments-i : goal.bounds-segments-i
-bounds-segments-i c = segment_in _ _ c.requires.worked c.in-11.is (rw c.places-places.ensures at c.loop-i-test.true)
+bounds-segments-i c = segment_in _ _ c.requires.worked c.in-11.is (rw c.places-i-end.ensures at c.loop-i-test.true)
 
 pub bounds-weighings-i : goal.bounds-weighings-i
-bounds-weighings-i c = weighing_in _ _ c.requires.worked c.in-17.is (rw c.places-places.ensures at c.loop-i-test.true)
+bounds-weighings-i c = weighing_in _ _ c.requires.worked c.in-17.is (rw c.places-i-end.ensures at c.loop-i-test.true)
 
 pub ground_of-ground-requires : goal.ground_of-ground-requires
 ground_of-ground-requires c = judgeable _ _ c.requires.worked _ _ c.beside_of-beside.ensures
@@ -106,8 +103,8 @@ pub returns-then-finding-place : goal.returns-then-finding-place
 unfolding finding_at
 returns-then-finding-place c =
     let judged = (goal.at.returns-then-finding-place c).After-broken in
-    met _ _ _ _ _ c.args.sought c.before-done.result _ _ c.beside_of-beside.ensures c.before-done.ensures c.place-place.ensures c.loop-done.invariant.0
-    (omega (arith, c.loop-done-test.true, c.loop-done.invariant.1, c.last-last.ensures))
+    met _ _ _ _ _ c.args.sought c.before-before.result _ _ c.beside_of-beside.ensures c.before-before.ensures c.place-place.ensures c.loop-done.auto.done
+    (omega (arith, c.loop-done-test.true, c.last-last.ensures))
     (place_in judged)
     (omega (arith, c.loop-i-test.true))
     (sym (ap (λ (f : Finding). f.place) c.finding_at-finding.ensures) ∙ c.if-finding-place.true)
@@ -133,32 +130,28 @@ loop-i-preserved c =
     let is_broken = broken_of c.args.run c.beside_of-beside.result in
     elim c.if-broken.branch [
       | then-broken+else-finding-place w ↦ (
-        omega arith,
-        passed_more is_broken _ _ _ (λ broke at. w.if-finding-place.false (ap (λ (f : Finding). f.place) w.finding_at-finding.ensures ∙ at)) inv.1,
-        (λ fs s. rw (w.found-is, w.count-is) (entered_found _ is_broken fs _ _ (has_room judged w.if-broken.true) test w.if-broken.true w.finding_at-finding.ensures (inv.2 fs s))),
+        passed_more is_broken _ _ _ (λ broke at. w.if-finding-place.false (ap (λ (f : Finding). f.place) w.finding_at-finding.ensures ∙ at)) inv.0,
+        (λ fs s. rw (w.found-is, w.count-is) (entered_found _ is_broken fs _ _ (has_room judged w.if-broken.true) test w.if-broken.true w.finding_at-finding.ensures (inv.1 fs s))),
       )
       | else-broken w ↦ (
-        omega arith,
-        passed_more is_broken _ _ _ (λ broke at. true≢false (sym broke ∙ sym test ∙ w.if-broken.false)) inv.1,
-        (λ fs s. rw (w.found-is, w.count-is) (entered_passed _ is_broken fs _ _ test w.if-broken.false (inv.2 fs s))),
+        passed_more is_broken _ _ _ (λ broke at. true≢false (sym broke ∙ sym test ∙ w.if-broken.false)) inv.0,
+        (λ fs s. rw (w.found-is, w.count-is) (entered_passed _ is_broken fs _ _ test w.if-broken.false (inv.1 fs s))),
       )
     ]
 
 pub loop-done-preserved : goal.loop-done-preserved
 loop-done-preserved c =
-    let all : c.loop-i.i ≡ c.places-places.result = omega (arith, c.loop-i.invariant.0) in
-    let last_place = all ∙ c.places-places.ensures in
+    let all : c.loop-i.i ≡ c.places-i-end.result = omega arith in
+    let last_place = all ∙ c.places-i-end.ensures in
     let outer = c.loop-done.invariant in (
-      omega (arith, outer.0),
-      omega (arith, c.loop-done-test.true),
-      passed_rule _ _ _ _ _ (rw last_place at c.loop-i.invariant.1) outer.2,
-      entered_rule _ _ _ _ _ (last_place ∙ sym (places_above _ _ _ outer.0)) (c.loop-i.invariant.2 _ outer.3),
+      passed_rule _ _ _ _ _ (rw last_place at c.loop-i.invariant.0) outer.0,
+      entered_rule _ _ _ _ _ (last_place ∙ sym (places_above _ _ _ c.loop-done.auto.done)) (c.loop-i.invariant.1 _ outer.1),
     )
 
 pub returns : goal.returns
 returns c =
-    let end : c.loop-done.done ≡ c.last-last.result = omega (arith, c.loop-done.invariant.1) in
+    let end : c.loop-done.done ≡ c.last-last.result = omega (arith, c.requires.seekable.some, c.before-before.ensures, c.last-last.ensures) in
     let last_is = end ∙ c.last-last.ensures in
-    not_met _ _ _ _ _ c.args.sought c.before-done.result c.beside_of-beside.ensures c.before-done.ensures c.place-place.ensures c.requires.seekable.some
-    (rw last_is at c.loop-done.invariant.2)
-    (rw last_is at c.loop-done.invariant.3)
+    not_met _ _ _ _ _ c.args.sought c.before-before.result c.beside_of-beside.ensures c.before-before.ensures c.place-place.ensures c.requires.seekable.some
+    (rw last_is at c.loop-done.invariant.0)
+    (rw last_is at c.loop-done.invariant.1)

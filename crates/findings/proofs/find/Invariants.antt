@@ -1,7 +1,7 @@
 -- The outer invariant: the findings of the rules done are entered in the list, and no place passed was both broken and the one sought; the
 -- inner: the same of the rule's places passed, behind whatever was entered before.
 -- The loops see the run's header and lists and what stands beside them; what they find is the run's, with its certificates and lines.
-use Prim.Native.Nat.{ℕ, ◌+◌, ◌-◌, ◌≤◌}
+use Prim.Native.Nat.{ℕ, ◌+◌}
 use mathlib.Core.Bool.{Bool}
 use mathlib.Core.List.{List, ◌++◌}
 use Rattle.records.specs.declared.Point.{Point}
@@ -24,19 +24,10 @@ broken_in header points segments weighings beside rule i =
 
 abbrev pub invariant-loop-i : goal.invariant-loop-i
 invariant-loop-i l =
-    (l.i ≤ l.places)
-    × Passed (broken_in l.header l.points l.segments l.weighings l.beside) l.place (l.done + 1) l.i
+    Passed (broken_in l.header l.points l.segments l.weighings l.beside) l.place (l.done + 1) l.i
     × ((fs : List Finding) → Entered fs l.initial.count l.initial.found.list → Entered (fs ++ rule_findings l.v (broken_in l.header l.points l.segments l.weighings l.beside (l.done + 1)) (l.done + 1) l.i) l.count l.found.list)
-
-abbrev pub decreases-loop-i : goal.decreases-loop-i
-decreases-loop-i l = l.places - l.i
 
 abbrev pub invariant-loop-done : goal.invariant-loop-done
 invariant-loop-done l =
-    (l.initial.done ≤ l.done)
-    × (l.done ≤ l.last)
-    × PassedTo (broken_in l.header l.points l.segments l.weighings l.beside) l.header.counts l.place l.initial.done l.done
+    PassedTo (broken_in l.header l.points l.segments l.weighings l.beside) l.header.counts l.place l.initial.done l.done
     × Entered (findings_to l.v (broken_in l.header l.points l.segments l.weighings l.beside) (places_from l.initial.done l.header.counts) l.done) l.count l.found.list
-
-abbrev pub decreases-loop-done : goal.decreases-loop-done
-decreases-loop-done l = l.last - l.done

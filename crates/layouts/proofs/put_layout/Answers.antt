@@ -15,24 +15,12 @@ counted c =
     let long : length c.args.layout.distances ≡ most_distances = search rules in
     length-take-le _ _ (omega (arith, c.requires))
 
-pub overflow_mul-count : goal.overflow_mul-count
-overflow_mul-count c = search rules
-
-pub returns-then-out-count : goal.returns-then-out-count
-returns-then-out-count c = refused_short _ _ (counted (goal.at.returns-then-out-count c).Start) c.if-out-count.true
+pub returns-then-out-size : goal.returns-then-out-size
+returns-then-out-size c =
+    rw c.into.ensures (refused_short _ _ (counted (goal.at.returns-then-out-size c).Start) c.if-out-size.true)
 
 pub put_distances-requires : goal.put_distances-requires
-put_distances-requires c = search rules
-
-pub overflow_mul-result : goal.overflow_mul-result
-overflow_mul-result c = search rules
-
-pub overflow_cast-result : goal.overflow_cast-result
-overflow_cast-result c = search rules
-
-pub shape_of-out : goal.shape_of-out
-shape_of-out c = search rules
+put_distances-requires c = rw (counted (goal.at.put_distances-requires c).Start) c.if-out-size.false
 
 pub returns : goal.returns
-returns c =
-    laid_out _ _ (counted (goal.at.returns c).Start) c.if-out-count.false c.put_distances.ensures
+returns c = laid_out _ _ (counted (goal.at.returns c).Start) c.if-out-size.false c.put_distances.ensures

@@ -12,7 +12,8 @@ rectangle_fits-requires c = search rules
 
 pub returns-then-not-rectangle_fits : goal.returns-then-not-rectangle_fits
 unfolding rectangle_outcome
-returns-then-not-rectangle_fits c = refused_outside _ _ _ (sym c.rectangle_fits.ensures ∙ c.if-not-rectangle_fits.true)
+returns-then-not-rectangle_fits c =
+    rw c.into.ensures (refused_outside _ _ _ (sym c.rectangle_fits.ensures ∙ c.if-not-rectangle_fits.true))
 
 pub rectangle-requires : goal.rectangle-requires
 rectangle-requires c = sym c.rectangle_fits.ensures ∙ c.if-not-rectangle_fits.false

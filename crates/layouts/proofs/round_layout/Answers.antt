@@ -12,7 +12,8 @@ round_fits-requires c = search rules
 
 pub returns-then-not-round_fits : goal.returns-then-not-round_fits
 unfolding round_outcome
-returns-then-not-round_fits c = refused_outside _ _ _ (sym c.round_fits.ensures ∙ c.if-not-round_fits.true)
+returns-then-not-round_fits c =
+    rw c.into.ensures (refused_outside _ _ _ (sym c.round_fits.ensures ∙ c.if-not-round_fits.true))
 
 pub round-requires : goal.round-requires
 round-requires c = sym c.round_fits.ensures ∙ c.if-not-round_fits.false

@@ -8,6 +8,6 @@ pub returns-then-u16_at-eq2 : goal.returns-then-u16_at-eq2
 unfolding version_of
 returns-then-u16_at-eq2 c = rw (eq-eqb _ _ (sym c.u16_at.ensures ∙ c.if-u16_at-eq2.true))
 
-pub returns : goal.returns
+pub returns-else-u16_at-eq2 : goal.returns-else-u16_at-eq2
 unfolding version_of
-returns c = rw (ne_eqb _ _ (λ e. c.if-u16_at-eq2.false (c.u16_at.ensures ∙ e)))
+returns-else-u16_at-eq2 c = rw (ne_eqb _ _ (λ e. c.if-u16_at-eq2.false (c.u16_at.ensures ∙ e)))

@@ -19,12 +19,6 @@ put_byte-requires c =
     let w = c.loop-i.invariant in
     omega (arith, written_length w, w.room, c.loop-i-test.true)
 
-pub overflow_add-i : goal.overflow_add-i
-overflow_add-i c = omega (arith, c.loop-i-test.true, c.loop-i.invariant.room, c.well_formed.0.0)
-
-pub loop-i-smaller : goal.loop-i-smaller
-loop-i-smaller c = omega (arith, c.loop-i-test.true)
-
 pub loop-i-preserved : goal.loop-i-preserved
 loop-i-preserved c = written_more c.loop-i.invariant c.loop-i-test.true c.put_byte.ensures
 

@@ -1,44 +1,35 @@
--- The text is written beside the output, and copied where the output has room for it.
-use Prim.Native.Nat.{ℕ}
-use mathlib.Core.Path.{◌∙◌, sym, ap}
-use native.Mathlib.Omega.{arith}
-use lib.ListN.{length, length-replicate}
-use Rattle.characters.proofs.Texts.{written_end}
+-- The text is written beside the output, and handed over.
+use Rattle.std.proofs.Common.{ℕ, ◌≡◌, ◌≤◌, length, take, sym, ◌∙◌, arith}
+use lib.ListN.{length-replicate}
+use lib.Seq.{length-take-le}
+use Rattle.characters.proofs.Texts.{taken_front, within_front}
 use Rattle.printing.specs.Jobs.{job_text}
 use Rattle.printing.proofs.Lengths.{text_most}
 use Rattle.printing.proofs.ClearJobs.{text_of_runs}
-use Rattle.printed.proofs.Printing.{end_fits, refused_short, handed_over, Beside, beside}
 use Rattle.printed.proofs.put_by_way.Goals as goal
 use Rattle.printed.proofs.put_by_way.Goals.{After-put_runs-end}
 
--- the text of the job stands beside the output
-text : (c : After-put_runs-end) → Beside (job_text c.args.figure c.args.s.now) c.put_runs-end.new.out c.put_runs-end.result
-text c =
-    let size = length-replicate {A = ℕ} 27088 0 in
-    beside (rw (text_of_runs _ _ _ c.requires) at c.put_runs-end.ensures) (omega (arith, size, text_most c.args.figure c.args.s.now))
+-- the text of the job stands beside the output, and is no longer than the room there
+text : (c : After-put_runs-end) → take c.put_runs-end.result c.put_runs-end.new.out ≡ job_text c.args.figure c.args.s.now
+text c = taken_front c.put_runs-end.ensures ∙ text_of_runs _ _ _ c.requires
 
-pub returns-then-out-end : goal.returns-then-out-end
-returns-then-out-end c =
-    refused_short _ _ (text (goal.at.returns-then-out-end c).After-put_runs-end).whole (omega (arith, c.if-out-end.true))
+inside : (c : After-put_runs-end) → c.put_runs-end.result ≤ length c.put_runs-end.new.out
+inside c =
+    let size = length-replicate {A = ℕ} 27088 0 in
+    let short = text_most c.args.figure c.args.s.now in
+    within_front c.put_runs-end.ensures (rw (text_of_runs c.args.figure _ _ c.requires) (omega (arith, size, short)))
 
 pub slice_bounds-way-end : goal.slice_bounds-way-end
-slice_bounds-way-end c = (text (goal.at.slice_bounds-way-end c).After-put_runs-end).inside
+slice_bounds-way-end c = inside (goal.at.slice_bounds-way-end c).After-put_runs-end
 
-pub slice_bounds-put_word-end : goal.slice_bounds-put_word-end
-slice_bounds-put_word-end c =
-    let beside = text (goal.at.slice_bounds-put_word-end c).After-put_runs-end in
-    beside.whole ∙ sym (ap length beside.front)
+pub slice_bounds-hand_over-end : goal.slice_bounds-hand_over-end
+slice_bounds-hand_over-end c =
+    sym (length-take-le _ _ (inside (goal.at.slice_bounds-hand_over-end c).After-put_runs-end))
 
-pub put_word-requires : goal.put_word-requires
-put_word-requires c =
-    let beside = text (goal.at.put_word-requires c).After-put_runs-end in
-    rw beside.front (record { fits = omega (arith, beside.whole, c.if-out-end.false) })
-
-pub overflow_cast-result : goal.overflow_cast-result
-overflow_cast-result c = omega (arith, end_fits _ _ (text (goal.at.overflow_cast-result c).After-put_runs-end).whole)
+pub hand_over-requires : goal.hand_over-requires
+hand_over-requires c =
+    let place = (goal.at.hand_over-requires c).After-put_runs-end in
+    rw (text place) (omega (arith, text_most c.args.figure c.args.s.now))
 
 pub returns : goal.returns
-returns c =
-    let beside = text (goal.at.returns c).After-put_runs-end in
-    let copied = rw beside.front at c.put_word.ensures in
-    rw (beside.whole ∙ sym (written_end copied)) (handed_over _ _ (omega (arith, beside.whole, c.if-out-end.false)) copied)
+returns c = rw (text (goal.at.returns c).After-put_runs-end) at c.hand_over.ensures

@@ -1,14 +1,15 @@
 -- The figure's trouble comes before the job is read; without one, the call by a figure's steps.
-use native.Mathlib.Omega.{arith}
+use Rattle.std.proofs.Common.{refl, sym, ap}
+use Rattle.figures.specs.Figures.{Supplied}
 use Rattle.figures.proofs.Clear.{fourteen_fits}
+use Rattle.output.proofs.Refusals.{file_told}
 use Rattle.printed.proofs.Printing.{refused_by_figure, by_good_figure}
 use Rattle.printed.proofs.sheet_text_by_figure.Goals as goal
 
-pub overflow_cast-result : goal.overflow_cast-result
-overflow_cast-result c = omega (arith, fourteen_fits _ c.read-supplied.ensures c.in-At.is)
-
-pub returns-in-At : goal.returns-in-At
-returns-in-At c = refused_by_figure _ _ _ c.read-supplied.ensures c.in-At.is
+pub returns-in_err-read : goal.returns-in_err-read
+returns-in_err-read c =
+    let met = c.in_err-read.ensures in
+    rw (file_told _ _ (fourteen_fits _ met refl) c.from_residual.ensures.1) (refused_by_figure _ _ _ (sym (ap (λ (f : Supplied). f.trouble) met)))
 
 pub returns : goal.returns
-returns c = by_good_figure _ _ c.read-supplied.ensures c.in_default.is c.sheet_text.ensures
+returns c = by_good_figure _ _ (sym (ap (λ (f : Supplied). f.trouble) c.in_ok-read.ensures)) (rw (ap (λ (f : Supplied). f.figure) c.in_ok-read.ensures) at c.sheet_text.ensures)

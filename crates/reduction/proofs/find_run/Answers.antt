@@ -13,20 +13,14 @@ use Rattle.reduction.proofs.find_run.Goals.{then-u16_at-number, else-u16_at-numb
 pub loop-k-init : goal.loop-k-init
 loop-k-init c = (omega arith, sought_none _ _)
 
-pub offset_bounds-starts-k : goal.offset_bounds-starts-k
-offset_bounds-starts-k c = omega (arith, c.loop-k-test.true, few_runs _ _ c.requires)
+pub offset_bounds-job-k : goal.offset_bounds-job-k
+offset_bounds-job-k c = omega (arith, c.loop-k-test.true, few_runs _ _ c.requires)
 
-pub bounds-starts-k : goal.bounds-starts-k
-bounds-starts-k c = omega (arith, c.loop-k-test.true, few_runs _ _ c.requires)
+pub bounds-job-k : goal.bounds-job-k
+bounds-job-k c = omega (arith, c.loop-k-test.true, few_runs _ _ c.requires)
 
 pub u16_at-requires : goal.u16_at-requires
 u16_at-requires c = number_left _ _ c.requires _ c.loop-k-test.true c.tail.ensures
-
-pub overflow_add-k : goal.overflow_add-k
-overflow_add-k c = omega (arith, c.loop-k-test.true, few_runs _ _ c.requires)
-
-pub loop-k-smaller : goal.loop-k-smaller
-loop-k-smaller c = omega (arith, c.loop-k-test.true)
 
 pub loop-k-preserved : goal.loop-k-preserved
 loop-k-preserved c =

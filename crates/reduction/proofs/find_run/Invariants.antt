@@ -1,12 +1,8 @@
 -- The loop keeps the run that has the number.
 use Rattle.reduction.proofs.Naming.{Sought}
-use Prim.Native.Nat.{◌-◌, ◌≤◌}
+use Prim.Native.Nat.{◌≤◌}
 use Rattle.reduction.proofs.find_run.Given as goal
 
 abbrev pub invariant-loop-k : goal.invariant-loop-k
 invariant-loop-k l =
-    (l.k ≤ l.runs) × Sought l.s l.number l.found l.k
-
-abbrev pub decreases-loop-k : goal.decreases-loop-k
-decreases-loop-k l =
-    l.runs - l.k
+    (l.k ≤ l.job.runs) × Sought l.s l.number l.found l.k

@@ -24,30 +24,38 @@ unfolding judged_run chosen_in
 is_judged_run sought fig {s} {v} {j} ev ok e ed =
     ed ∙ rw (ev, this_run ok e, count_of_certificates s j ok.job)
 
-pub version-v-requires : goal.version-v-requires
-version-v-requires c =
+pub of-file-requires : goal.of-file-requires
+of-file-requires c =
     let ok = c.requires.clear in
     omega (arith, (workable _ _ ok.job _ ok.inside).within)
 
-pub offset_bounds-starts-k : goal.offset_bounds-starts-k
-offset_bounds-starts-k c =
+pub offset_bounds-job-k : goal.offset_bounds-job-k
+offset_bounds-job-k c =
     let ok = c.requires.clear in
     omega (arith, few_runs _ _ ok.job, count_of_runs _ _ ok.job, ok.inside)
 
-pub bounds-starts-k : goal.bounds-starts-k
-bounds-starts-k c =
+pub bounds-job-k : goal.bounds-job-k
+bounds-job-k c =
     let ok = c.requires.clear in
     omega (arith, few_runs _ _ ok.job, count_of_runs _ _ ok.job, ok.inside)
 
-pub run-requires : goal.run-requires
-run-requires c =
+pub run-run-requires : goal.run-run-requires
+run-run-requires c =
     let ok = c.requires.clear in
-    (c.version-v.ensures, lies_within _ _ ok.job _ ok.inside)
+    rw c.of-file.ensures (lies_within _ _ ok.job _ ok.inside)
+
+pub invariant_of-all : goal.invariant_of-all
+invariant_of-all c =
+    let ok = c.requires.clear in
+    record { inside = rw (c.of-file.result.said, c.of-file.ensures) (workable _ _ ok.job _ ok.inside).within }
 
 pub work-requires : goal.work-requires
 work-requires c =
-    record { reducible = (c.version-v.ensures, ready c.requires.clear c.run.ensures); seekable = c.requires.seekable }
+    record {
+      reducible = rw c.of-file.ensures (ready c.requires.clear (rw c.of-file.ensures at c.run-run.ensures)).reducible;
+      seekable = c.requires.seekable;
+    }
 
 pub returns : goal.returns
 returns c =
-    is_judged_run c.args.sought _ c.version-v.ensures c.requires.clear c.run.ensures c.work.ensures
+    is_judged_run c.args.sought _ (rw c.of-file.ensures at c.of-file.result.said) c.requires.clear (rw c.of-file.ensures at c.run-run.ensures) (rw c.of-file.ensures at c.work.ensures)

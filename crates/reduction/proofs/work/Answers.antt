@@ -17,28 +17,25 @@ found_few : (sought : Sought) (v : Version) (fig : Figure) {r : Run} (ch : Chose
 unfolding listed
 found_few sought v fig ch w ok = listed_few v fig _ ch _ w sought ok
 
-pub choose_all-chosen-requires : goal.choose_all-chosen-requires
-choose_all-chosen-requires c = (c.requires.reducible.0, rw c.requires.reducible.0 c.requires.reducible.1.within)
-
 pub lines-l-requires : goal.lines-l-requires
 lines-l-requires c =
-    lines_workable _ _ _ _ c.requires.reducible.1.reducible c.choose_all-chosen.ensures c.factor_of-y.ensures c.coefficient_of-cp.ensures c.diameters_of-nozzle.ensures
+    lines_workable _ _ _ _ c.requires.reducible c.choose_all-chosen.ensures c.factor_of-y.ensures c.coefficient_of-cp.ensures c.diameters_of-nozzle.ensures
 
 pub find-walked-requires : goal.find-walked-requires
 find-walked-requires c =
-    record { worked = record { ok = c.requires.reducible.1.reducible.run; y = _; cp = _; nozzle = _; is = c.lines-l.ensures.0 }; seekable = c.requires.seekable }
+    record { worked = record { ok = c.requires.reducible.run; y = _; cp = _; nozzle = _; is = c.lines-l.ensures.0 }; seekable = c.requires.seekable }
 
-pub accepted-requires : goal.accepted-requires
-accepted-requires c =
+pub shared_ref_as_front-accepted : goal.shared_ref_as_front-accepted
+shared_ref_as_front-accepted c =
     let args = c.args in
-    let asked = find-walked-requires (goal.at.accepted-requires c).After-lines-l in
-    rw c.find-walked.ensures (found_few args.sought args.v args.figure _ asked.worked asked.seekable)
+    let asked = find-walked-requires (goal.at.shared_ref_as_front-accepted c).After-lines-l in
+    rw c.find-walked.ensures (found_few args.sought args.all.file.version args.figure _ asked.worked asked.seekable)
 
 pub returns : goal.returns
 returns c =
     let args = c.args in
-    is_judged args.sought args.v args.figure _ _ _ c.choose_all-chosen.ensures
-    (lines_worked args.v _ _ c.factor_of-y.ensures c.coefficient_of-cp.ensures c.diameters_of-nozzle.ensures c.lines-l.ensures.0)
+    is_judged args.sought args.all.file.version args.figure _ _ _ c.choose_all-chosen.ensures
+    (lines_worked args.all.file.version _ _ c.factor_of-y.ensures c.coefficient_of-cp.ensures c.diameters_of-nozzle.ensures c.lines-l.ensures.0)
     c.find-walked.ensures
     c.accepted.ensures
     c.sheet.ensures

@@ -32,12 +32,5 @@ is_catch weighings n acetone s d sums id =
       range = rw back (catch_ok _ _ finals.high small);
     }
 
-pub overflow_sub-result : goal.overflow_sub-result
-overflow_sub-result c =
-    let sums = c.weighing_sums-weighed.ensures in
-    let taken : c.weighing_sums-weighed.result.tares + c.deduction.result ≤ 32000099 =
-    omega (arith, sums.tares.high, c.deduction.ensures.high) in
-    fits _ _ sums.finals.high taken
-
 pub returns : goal.returns
 returns c = is_catch _ _ _ _ _ c.weighing_sums-weighed.ensures c.deduction.ensures

@@ -1,7 +1,7 @@
 -- The acetone's share: the smaller of the two.
 use native.Mathlib.Omega.{arith}
 use Rattle.sampling.specs.Sampling.{deduction}
-use Rattle.sampling.proofs.Products.{residue_product, density_product, deduction_most}
+use Rattle.sampling.proofs.Products.{deduction_most}
 use Rattle.readings.proofs.Ranges.{within_least}
 use mathlib.Core.Path.{◌≡◌, ◌∙◌, ap}
 use Prim.Native.Nat.{ℕ, ◌*◌, ◌/◌, min}
@@ -17,14 +17,8 @@ is_deduction a found r ok e er =
     let is : r ≡ deduction a = er ∙ ap (λ x. min x (a.rinse * a.density / 100000)) e in
     record { is = is; low = omega arith; high = rw is (deduction_most a ok) }
 
-pub overflow_mul-acetone : goal.overflow_mul-acetone
-overflow_mul-acetone c = omega (arith, residue_product {a = c.args.acetone} (omega arith) c.requires)
-
 pub round_div-found-requires : goal.round_div-found-requires
 round_div-found-requires c = within_least _ _ _ c.requires.blank
 
-pub overflow_mul-rinse : goal.overflow_mul-rinse
-overflow_mul-rinse c = omega (arith, density_product c.requires)
-
 pub returns : goal.returns
-returns c = is_deduction _ _ _ c.requires c.round_div-found.ensures c.smaller.ensures
+returns c = is_deduction _ _ _ c.requires c.round_div-found.ensures c.min.ensures

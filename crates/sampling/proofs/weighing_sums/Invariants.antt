@@ -1,7 +1,5 @@
 -- One pass that sums second final weights and tares by index.
-use Prim.Native.Nat.{ℕ, ◌-◌}
-use mathlib.Core.List.{List}
-use lib.ListN.{get_or}
+use Rattle.std.proofs.Common.{ℕ, List, length, get_or}
 use Rattle.readings.specs.Ranges.{greatest_weight}
 use Rattle.records.specs.declared.Weighing.{Weighing}
 use Rattle.records.specs.Records.{no_weighing}
@@ -14,10 +12,7 @@ tare weighings i = (get_or weighings i no_weighing).tare
 abbrev pub second : List Weighing → ℕ → ℕ
 second weighings i = (get_or weighings i no_weighing).second
 
-abbrev pub invariant-loop-i : goal.invariant-loop-i
-invariant-loop-i l =
-    Summed (second l.weighings) greatest_weight l.n l.finals l.i × Summed (tare l.weighings) greatest_weight l.n l.tares l.i
-
-abbrev pub decreases-loop-i : goal.decreases-loop-i
-decreases-loop-i l =
-    l.n - l.i
+abbrev pub invariant-loop-w : goal.invariant-loop-w
+invariant-loop-w l =
+    Summed (second l.weighings) greatest_weight (length l.weighings) l.finals l.w-index
+    × Summed (tare l.weighings) greatest_weight (length l.weighings) l.tares l.w-index

@@ -73,23 +73,9 @@ bounds-distances-at-in-loop-i c = omega (arith, room (goal.at.bounds-distances-a
 pub overflow_add-at : goal.overflow_add-at
 overflow_add-at c = omega (arith, room (goal.at.overflow_add-at c).In-loop-i)
 
-pub overflow_add-i-in-loop-i : goal.overflow_add-i-in-loop-i
-overflow_add-i-in-loop-i c =
-    omega (arith, (cells (goal.at.overflow_add-i-in-loop-i c).After-second_cells-rows).columns_few)
-
-pub loop-i-smaller : goal.loop-i-smaller
-loop-i-smaller c = omega arith
-
 pub loop-i-preserved : goal.loop-i-preserved
 loop-i-preserved c =
     row_more (cells (goal.at.loop-i-preserved c).After-second_cells-rows) c.loop-i.invariant c.loop-j-test.true c.loop-i-test.true c.center.ensures.is c.center-in-loop-i.ensures.is
-
-pub overflow_add-j-in-loop-j : goal.overflow_add-j-in-loop-j
-overflow_add-j-in-loop-j c =
-    omega (arith, (cells (goal.at.overflow_add-j-in-loop-j c).After-second_cells-rows).rows_few)
-
-pub loop-j-smaller : goal.loop-j-smaller
-loop-j-smaller c = omega arith
 
 pub loop-j-preserved : goal.loop-j-preserved
 loop-j-preserved c = row_all c.loop-i.invariant c.loop-j-test.true c.loop-i-test.false

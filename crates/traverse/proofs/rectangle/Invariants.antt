@@ -1,5 +1,4 @@
 -- Two loops, along the second side and, inside it, along the first: each turn of the inner one stores a point's two distances.
-use Prim.Native.Nat.{◌-◌}
 use Rattle.traverse.proofs.RowLaws.{Rows, Row}
 use Rattle.traverse.proofs.rectangle.Given as goal
 
@@ -7,14 +6,6 @@ abbrev pub invariant-loop-i : goal.invariant-loop-i
 invariant-loop-i l =
     Row l.first l.second l.columns l.rows l.j l.distances l.at l.i
 
-abbrev pub decreases-loop-i : goal.decreases-loop-i
-decreases-loop-i l =
-    l.columns - l.i
-
 abbrev pub invariant-loop-j : goal.invariant-loop-j
 invariant-loop-j l =
     Rows l.first l.second l.columns l.rows l.distances l.at l.j
-
-abbrev pub decreases-loop-j : goal.decreases-loop-j
-decreases-loop-j l =
-    l.rows - l.j

@@ -53,11 +53,5 @@ offset_bounds-distances-i c = omega (arith, ((points_of c.args.points (round_ok 
 pub bounds-distances-i : goal.bounds-distances-i
 bounds-distances-i c = omega (arith, ((points_of c.args.points (round_ok _ _ _ c.requires).points).most))
 
-pub overflow_add-i-in-loop-i : goal.overflow_add-i-in-loop-i
-overflow_add-i-in-loop-i c = omega arith
-
-pub loop-i-smaller : goal.loop-i-smaller
-loop-i-smaller c = omega arith
-
 pub returns : goal.returns
 returns c = laid_all c.loop-i.invariant c.loop-i-test.false

@@ -1,5 +1,5 @@
 -- A loop that fills the array with the distances of points 1, 2, .. in order.
-use Prim.Native.Nat.{ℕ, ◌-◌, ◌≤◌}
+use Prim.Native.Nat.{ℕ, ◌≤◌}
 use mathlib.Core.List.{List, [], ◌∷◌}
 use Rattle.arrays.proofs.Filled.{Filled}
 use Rattle.distances.specs.Round.{distance}
@@ -14,7 +14,3 @@ pub record Laid (n d z : ℕ) (array : List ℕ) (i : ℕ) : Type 0 where
 abbrev pub invariant-loop-i : goal.invariant-loop-i
 invariant-loop-i l =
     Laid l.points l.diameter l.nozzle l.distances l.i
-
-abbrev pub decreases-loop-i : goal.decreases-loop-i
-decreases-loop-i l =
-    l.n - l.i

@@ -12,10 +12,10 @@ pub returns-then-which-eq1 : goal.returns-then-which-eq1
 unfolding words_of sayings spelled
 returns-then-which-eq1 c = rw (eq-eqb _ _ c.if-which-eq1.true) c.put_by_shape.ensures
 
-pub put_by_shape-requires-2 : goal.put_by_shape-requires-2
+pub put_by_shape-requires-else-which-eq1 : goal.put_by_shape-requires-else-which-eq1
 unfolding words_of sayings spelled
-put_by_shape-requires-2 c = rw (ne_eqb _ _ c.if-which-eq1.false) at c.requires
+put_by_shape-requires-else-which-eq1 c = rw (ne_eqb _ _ c.if-which-eq1.false) at c.requires
 
-pub returns : goal.returns
+pub returns-else-which-eq1 : goal.returns-else-which-eq1
 unfolding words_of sayings spelled
-returns c = rw (ne_eqb _ _ c.if-which-eq1.false) c.put_by_shape-2.ensures
+returns-else-which-eq1 c = rw (ne_eqb _ _ c.if-which-eq1.false) c.put_by_shape-else-which-eq1.ensures

@@ -1,4 +1,5 @@
 -- A byte and a number, one after the other, by the two cases of a line.
+use Rattle.std.specs.Prelude.{Some, None}
 use Prim.Native.Nat.{ℕ, ◌+◌, ◌^◌, ◌≤◌, ◌<◌}
 use mathlib.Core.Path.{◌≡◌, ◌∙◌, ap}
 use mathlib.Core.List.{List, [], ◌∷◌}
@@ -10,7 +11,6 @@ use mir.Facts.{to_z-of_z}
 use mir.Syntax.{w64}
 use mir.Val.{SFits, to_z, of_z}
 use Rattle.lines.specs.declared.Entry.{Entry}
-use Rattle.lines.specs.declared.Line.TheVariants.{Present, Absent}
 use Rattle.output.specs.Bytes.{le, signed_bits}
 use Rattle.output.specs.Splice.{spliced}
 use Rattle.output.proofs.Bytes.{length_le}
@@ -23,20 +23,20 @@ two old at flag n room em eo =
     let long : length (le 8 n) ≡ 8 = length_le 8 n in
     eo ∙ rw em (spliced_more old at (flag ∷ []) (le 8 n) (omega arith))
 
-present : (entry : Entry) {z : ℤ} (old : List ℕ) (at : ℕ) {mid out : List ℕ} {n : ℕ} → entry.line ≡ Present z → mag z < 2 ^ 63 → at + line_size ≤ length old → mid ≡ spliced old at (1 ∷ []) → n ≡ signed_bits (to_z w64 (of_z w64 z)) → out ≡ spliced mid (at + 1) (le 8 n) → out ≡ spliced old at (entry_bytes entry)
+present : (entry : Entry) {z : ℤ} (old : List ℕ) (at : ℕ) {mid out : List ℕ} {n : ℕ} → entry.line ≡ Some z → mag z < 2 ^ 63 → at + line_size ≤ length old → mid ≡ spliced old at (1 ∷ []) → n ≡ signed_bits (to_z w64 (of_z w64 z)) → out ≡ spliced mid (at + 1) (le 8 n) → out ≡ spliced old at (entry_bytes entry)
 unfolding entry_bytes
 present entry {z} old at {mid} {out} {n} el small room em en eo =
     let fits : SFits w64 z = record { sfits = small } in
     let value : n ≡ signed_bits z = en ∙ ap signed_bits (to_z-of_z fits) in
     rw el (two old at 1 n room em eo ∙ ap (λ v. spliced old at (1 ∷ le 8 v)) value)
 
-absent : (entry : Entry) (old : List ℕ) (at : ℕ) {mid out : List ℕ} → entry.line ≡ Absent → at + line_size ≤ length old → mid ≡ spliced old at (0 ∷ []) → out ≡ spliced mid (at + 1) (le 8 0) → out ≡ spliced old at (entry_bytes entry)
+absent : (entry : Entry) (old : List ℕ) (at : ℕ) {mid out : List ℕ} → entry.line ≡ None → at + line_size ≤ length old → mid ≡ spliced old at (0 ∷ []) → out ≡ spliced mid (at + 1) (le 8 0) → out ≡ spliced old at (entry_bytes entry)
 unfolding entry_bytes
 absent entry old at el room em eo = rw el (two old at 0 0 room em eo)
 
-pub returns-in-Present : goal.returns-in-Present
-returns-in-Present c =
-    present _ _ _ c.in-Present.is (omega arith) c.requires c.put_byte.ensures c.signed_bits.ensures c.put_number.ensures
+pub returns-in-Some : goal.returns-in-Some
+returns-in-Some c =
+    present _ _ _ c.in-Some.is (omega arith) c.requires c.put_byte.ensures c.cast_unsigned.ensures c.put_number.ensures
 
 pub returns-in_default : goal.returns-in_default
 returns-in_default c =

@@ -11,23 +11,11 @@ loop-i-init c = (omega arith, c.requires, put_none _ (λ k. finding_length _))
 pub overflow_mul-i : goal.overflow_mul-i
 overflow_mul-i c = omega (arith, c.loop-i-test.true, c.loop-i.invariant.1)
 
-pub offset_bounds-list-i : goal.offset_bounds-list-i
-offset_bounds-list-i c = omega (arith, c.loop-i-test.true, c.loop-i.invariant.1)
-
-pub bounds-list-i : goal.bounds-list-i
-bounds-list-i c = omega (arith, c.loop-i-test.true, c.loop-i.invariant.1)
-
 pub put_finding-requires : goal.put_finding-requires
 put_finding-requires c =
     let f = c.loop-i.invariant in
     let inside = c.loop-i-test.true in
     omega (arith, inside, f.1, put_length f.2 (omega (arith, inside, f.1)))
-
-pub overflow_add-i : goal.overflow_add-i
-overflow_add-i c = omega (arith, c.loop-i-test.true, c.loop-i.invariant.1)
-
-pub loop-i-smaller : goal.loop-i-smaller
-loop-i-smaller c = omega (arith, c.loop-i-test.true)
 
 pub loop-i-preserved : goal.loop-i-preserved
 loop-i-preserved c =

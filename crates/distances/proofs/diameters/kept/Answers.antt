@@ -4,4 +4,4 @@ use Rattle.distances.proofs.diameters.kept.Goals as goal
 
 pub returns : goal.returns
 unfolding kept
-returns c = rw (c.smaller.ensures, c.larger.ensures)
+returns c = rw (c.min.ensures, c.max.ensures)

@@ -1,9 +1,8 @@
 -- `u16_at` is `u16_at`: two bytes.
-use mathlib.Core.Path.{ap₂}
-use Prim.Native.Nat.{ℕ, ◌+◌, ◌*◌}
+use native.Mathlib.Omega.{arith}
 use Rattle.fields.specs.Numbers.{u16_at}
 use Rattle.fields.proofs.numbers.u16_at.Goals as goal
 
 pub returns : goal.returns
 unfolding u16_at
-returns c = ap₂ (λ (low high : ℕ). low + 256 * high) c.byte-low.ensures c.byte-high.ensures
+returns c = omega (arith, c.from_le_bytes.ensures)

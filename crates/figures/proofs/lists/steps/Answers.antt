@@ -1,7 +1,6 @@
 -- The loop keeps that the steps passed are filled in.
 use mathlib.Core.Path.{◌≡◌}
 use native.Mathlib.Nat.{le_antisymm}
-use native.Mathlib.Omega.{arith}
 use borrow.Author.Rules.{rules}
 use Rattle.arrays.proofs.Arrays.{pad_none, pad_more}
 use Rattle.readings.specs.Ranges.{greatest_step_count}
@@ -11,9 +10,6 @@ use Rattle.figures.proofs.lists.steps.Goals as goal
 
 pub loop-i-init : goal.loop-i-init
 loop-i-init c = (search rules, pad_none greatest_step_count no_step _)
-
-pub bounds-all-i : goal.bounds-all-i
-bounds-all-i c = omega (arith, c.loop-i-test.true, c.byte-count.ensures, c.requires.1)
 
 pub loop-i-preserved : goal.loop-i-preserved
 loop-i-preserved c =

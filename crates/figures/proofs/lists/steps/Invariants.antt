@@ -1,5 +1,5 @@
 -- The loop keeps that the steps passed are filled in.
-use Prim.Native.Nat.{◌-◌, ◌≤◌}
+use Prim.Native.Nat.{◌≤◌}
 use mathlib.Core.Path.{◌≡◌}
 use Rattle.arrays.specs.Arrays.{padded}
 use Rattle.readings.specs.Ranges.{greatest_step_count}
@@ -10,7 +10,3 @@ use Rattle.figures.proofs.lists.steps.Given as goal
 abbrev pub invariant-loop-i : goal.invariant-loop-i
 invariant-loop-i l =
     (l.i ≤ l.count) × (l.all ≡ padded greatest_step_count no_step (step_at l.s l.at) l.i)
-
-abbrev pub decreases-loop-i : goal.decreases-loop-i
-decreases-loop-i l =
-    l.count - l.i

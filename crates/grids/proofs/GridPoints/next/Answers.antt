@@ -5,29 +5,20 @@ use Rattle.grids.specs.Grids.{grid_numbers, next_of, next_grid}
 use Rattle.grids.proofs.Grids.{Passed, passed_none, passed_more, next_found}
 use Rattle.grids.proofs.GridPoints.next.Goals as goal
 
-pub loop-i-init : goal.loop-i-init
-loop-i-init c = (omega arith, passed_none _ _)
-
-pub offset_bounds-i : goal.offset_bounds-i
-offset_bounds-i c = omega arith
+pub loop-grid-init : goal.loop-grid-init
+loop-grid-init c = (omega arith, passed_none _ _)
 
 pub returns-then-n-grid : goal.returns-then-n-grid
 unfolding next_grid
-returns-then-n-grid c = next_found grid_numbers _ _ c.loop-i-test.true c.loop-i.invariant.1 c.if-n-grid.true
+returns-then-n-grid c = next_found grid_numbers _ _ c.loop-grid-test.true c.loop-grid.invariant.1 c.if-n-grid.true
 
-pub overflow_add-i : goal.overflow_add-i
-overflow_add-i c = omega arith
-
-pub loop-i-smaller : goal.loop-i-smaller
-loop-i-smaller c = omega arith
-
-pub loop-i-preserved : goal.loop-i-preserved
-loop-i-preserved c =
-    (omega arith, passed_more grid_numbers _ _ c.loop-i-test.true c.loop-i.invariant.1 c.if-n-grid.false)
+pub loop-grid-preserved : goal.loop-grid-preserved
+loop-grid-preserved c =
+    (omega arith, passed_more grid_numbers _ _ c.loop-grid-test.true c.loop-grid.invariant.1 c.if-n-grid.false)
 
 pub returns : goal.returns
 unfolding next_grid next_of
 returns c =
-    let end : c.loop-i.i ≡ 9 = omega arith in
-    let past : Passed grid_numbers _ 9 = rw end at c.loop-i.invariant.1 in
+    let end : c.loop-grid.grid-index ≡ 9 = omega arith in
+    let past : Passed grid_numbers _ 9 = rw end at c.loop-grid.invariant.1 in
     sym past.next

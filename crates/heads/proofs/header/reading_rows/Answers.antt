@@ -1,28 +1,52 @@
--- One check a row, from the first to the last; the signed field is read back from its bits.
+-- A row a field: each is the table's, and then its check is; the signed field is read back from its bits.
 use mathlib.Core.Path.{refl, ◌∙◌, ap}
-use Rattle.fields.specs.Trouble.{checks}
-use Rattle.fields.proofs.FirstTrouble.{step}
-use Rattle.readings.specs.Ranges.{static_pressure}
+use mathlib.Core.List.{[], ◌∷◌}
+use Rattle.fields.specs.Trouble.{Clear, count, field, checks}
 use Rattle.fields.proofs.SignedFields.{read_back}
+use Rattle.readings.specs.Ranges.{static_pressure}
 use Rattle.heads.proofs.header.reading_rows.Goals as goal
 
 pub returns : goal.returns
-unfolding checks
 returns c =
-    let row25 = step 5 25 c.unless-t.ensures refl c.check.ensures in
-    let row27 = step 5 27 c.unless-t-2.ensures row25 (c.check-2.ensures ∙ ap static_pressure (read_back c.struct_told-1.given.1.1.1.1.1.1.0.1 refl)) in
-    let row29 = step 5 29 c.unless-t-3.ensures row27 c.check-3.ensures in
-    let row31 = step 5 31 c.unless-t-4.ensures row29 c.check-4.ensures in
-    let row33 = step 5 33 c.unless-t-5.ensures row31 c.check-5.ensures in
-    let row37 = step 5 37 c.unless-t-6.ensures row33 c.check-6.ensures in
-    let row41 = step 5 41 c.unless-t-7.ensures row37 c.check-7.ensures in
-    let row43 = step 5 43 c.unless-t-8.ensures row41 c.check-8.ensures in
-    let row44 = step 5 44 c.unless-t-9.ensures row43 c.check-9.ensures in
-    let row46 = step 5 46 c.unless-t-10.ensures row44 c.check_second.ensures in
-    let row54 = step 5 54 c.unless-t-11.ensures row46 c.check-10.ensures in
-    let row56 = step 5 56 c.unless-t-12.ensures row54 c.check-11.ensures in
-    let row58 = step 5 58 c.unless-t-13.ensures row56 c.check-12.ensures in
-    let row60 = step 4 60 c.unless-t-14.ensures row58 c.check-13.ensures in
-    let row61 = step 4 61 c.unless-t-15.ensures row60 c.check-14.ensures in
-    let row62 = step 4 62 c.unless-t-16.ensures row61 c.check-15.ensures in
-    step 5 63 c.unless.ensures row62 c.check-16.ensures
+    let low = c.check-2.ensures ∙ ap static_pressure (read_back c.struct_told-1.given.1.1.1.1.1.1.0.1 refl) in
+    c.check-17.ensures
+    ∙ (λ i.
+    checks Clear
+    (c.field.ensures i
+    ∷ c.field-2.ensures i
+    ∷ c.field-3.ensures i
+    ∷ c.field-4.ensures i
+    ∷ c.field-5.ensures i
+    ∷ c.field-6.ensures i
+    ∷ c.field-7.ensures i
+    ∷ c.field-8.ensures i
+    ∷ c.field-9.ensures i
+    ∷ c.field-10.ensures i
+    ∷ c.field-11.ensures i
+    ∷ c.field-12.ensures i
+    ∷ c.field-13.ensures i
+    ∷ c.count.ensures i
+    ∷ c.count-2.ensures i
+    ∷ c.count-3.ensures i
+    ∷ c.field-14.ensures i
+    ∷ []))
+    ∙ (λ i.
+    checks Clear
+    (field 25 (c.check.ensures i)
+    ∷ field 27 (low i)
+    ∷ field 29 (c.check-3.ensures i)
+    ∷ field 31 (c.check-4.ensures i)
+    ∷ field 33 (c.check-5.ensures i)
+    ∷ field 37 (c.check-6.ensures i)
+    ∷ field 41 (c.check-7.ensures i)
+    ∷ field 43 (c.check-8.ensures i)
+    ∷ field 44 (c.check-9.ensures i)
+    ∷ field 46 (c.check_second.ensures i)
+    ∷ field 54 (c.check-10.ensures i)
+    ∷ field 56 (c.check-11.ensures i)
+    ∷ field 58 (c.check-12.ensures i)
+    ∷ count 60 (c.check-13.ensures i)
+    ∷ count 61 (c.check-14.ensures i)
+    ∷ count 62 (c.check-15.ensures i)
+    ∷ field 63 (c.check-16.ensures i)
+    ∷ []))

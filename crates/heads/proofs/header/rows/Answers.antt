@@ -1,66 +1,66 @@
--- One check a row, from the first to the last; those behind the identities are moved along.
+-- The number, the identities, and the readings behind them, moved along: the first that is refused is the answer.
 use Prim.Native.Nat.{ℕ, ◌+◌, ◌≤◌}
-use mathlib.Core.Path.{◌≡◌, refl, ◌∙◌, ap}
-use mathlib.Core.List.{List, ◌∷◌, ◌++◌}
+use mathlib.Core.Path.{◌≡◌, refl, ◌∙◌, ap, ap₂}
+use mathlib.Core.List.{[], ◌∷◌}
 use native.Mathlib.Omega.{arith}
-use Rattle.fields.specs.declared.trouble.Trouble.TheVariants.{Clear}
-use Rattle.fields.specs.Trouble.{Row, field, checks, trouble_place}
-use Rattle.fields.proofs.FirstTrouble.{step, steps, then_met, then_passed, checks_reach}
-use Rattle.readings.specs.declared.headers.Version.{Version}
+use Rattle.fields.specs.Trouble.{Clear, field, checks, trouble_place, from}
+use Rattle.fields.specs.Refusals.{trouble_of}
+use Rattle.fields.proofs.FirstTrouble.{checks_reach}
+use Rattle.fields.proofs.Refusals.{refuses, passes}
 use Rattle.readings.specs.Ranges.{run_number}
-use Rattle.records.specs.declared.RunHeader.{RunHeader}
 use Rattle.opening.specs.Opening.{letters}
 use Rattle.opening.proofs.HowMany.{few}
 use Rattle.identities.specs.Identities.{identity_rows}
 use Rattle.heads.specs.Rows.{reading_rows}
+use Rattle.heads.proofs.Tables.{header_parts}
 use Rattle.heads.proofs.header.rows.Goals as goal
-use Rattle.heads.proofs.header.rows.Goals.{After-rows-t-3}
+use Rattle.heads.proofs.header.rows.Goals.{In_ok-check, In_ok-rows-2, In_ok-rows-3}
 
--- run number and identities
-abbrev front : Version → RunHeader → List Row
-front v h =
-    field 0 (run_number h.number)
-    ∷ identity_rows 4 h.meter
-    ++ identity_rows (11 + letters v 1) h.pitot
-    ++ identity_rows (18 + letters v 2) h.nozzle
+-- each part that all is well with
+number_clear : (c : In_ok-check) → Clear ≡ checks Clear (field 0 (run_number c.args.h.number) ∷ [])
+number_clear c = rw (← c.check.ensures, ← c.field.ensures) c.in_ok-check.ensures
 
-met : (c : After-rows-t-3) → c.rows-t-3.result ≡ checks Clear (front c.args.v c.args.h)
-unfolding checks
-met c =
-    let v = c.args.v in
-    let h = c.args.h in
-    let row0 = step 5 0 c.unless-t.ensures refl c.check.ensures in
-    let row4 = steps (identity_rows 4 h.meter) c.rows-t.ensures row0 in
-    let row11 = steps (identity_rows (11 + letters v 1) h.pitot) (c.rows-t-2.ensures ∙ ap (λ (l : ℕ). checks c.rows-t.result (identity_rows (11 + l) h.pitot)) c.letters.ensures) row4 in
-    steps (identity_rows (18 + letters v 2) h.nozzle) (c.rows-t-3.ensures ∙ ap (λ (l : ℕ). checks c.rows-t-2.result (identity_rows (18 + l) h.nozzle)) c.letters-2.ensures) row11
+pitot_clear : (c : In_ok-rows-2) → Clear ≡ checks Clear (identity_rows (11 + letters c.args.v 1) c.args.h.pitot)
+pitot_clear c = c.in_ok-rows-2.ensures ∙ ap (λ (l : ℕ). checks Clear (identity_rows (11 + l) c.args.h.pitot)) c.letters.ensures
 
-pub overflow_add-letters : goal.overflow_add-letters
-overflow_add-letters c = omega (arith, c.letters.ensures, few c.args.v 1)
+nozzle_clear : (c : In_ok-rows-3) → Clear ≡ checks Clear (identity_rows (18 + letters c.args.v 2) c.args.h.nozzle)
+nozzle_clear c = c.in_ok-rows-3.ensures ∙ ap (λ (l : ℕ). checks Clear (identity_rows (18 + l) c.args.h.nozzle)) c.letters-2.ensures
 
-pub rows-t-requires-2 : goal.rows-t-requires-2
-rows-t-requires-2 c = omega (arith, c.letters.ensures, few c.args.v 1)
+pub returns-in_err-check : goal.returns-in_err-check
+returns-in_err-check c = rw (header_parts c.args.v c.args.h c.args.spare) (refuses _ _ _ c.from_residual.ensures.1 (rw (← c.check.ensures, ← c.field.ensures) c.in_err-check.ensures))
 
-pub overflow_add-letters-2 : goal.overflow_add-letters-2
-overflow_add-letters-2 c = omega (arith, c.letters-2.ensures, few c.args.v 2)
+pub returns-in_err-rows : goal.returns-in_err-rows
+returns-in_err-rows c =
+    let at = goal.at.returns-in_err-rows c in
+    rw (header_parts c.args.v c.args.h c.args.spare) (passes (number_clear at.In_ok-check) (refuses _ _ _ c.from_residual-in_err-rows.ensures.1 c.in_err-rows.ensures))
 
-pub rows-t-requires-3 : goal.rows-t-requires-3
-rows-t-requires-3 c = omega (arith, c.letters-2.ensures, few c.args.v 2)
+pub returns-in_err-rows-2 : goal.returns-in_err-rows-2
+returns-in_err-rows-2 c =
+    let at = goal.at.returns-in_err-rows-2 c in
+    rw (header_parts c.args.v c.args.h c.args.spare)
+    (passes (number_clear at.In_ok-check)
+    (passes c.in_ok-rows.ensures
+    (refuses _ _ _ c.from_residual-in_err-rows-2.ensures.1 (c.in_err-rows-2.ensures ∙ ap (λ (l : ℕ). checks Clear (identity_rows (11 + l) c.args.h.pitot)) c.letters.ensures))))
 
-pub returns-in_default : goal.returns-in_default
-returns-in_default c =
-    let v = c.args.v in
-    then_met (front v c.args.h) (letters v 3) (reading_rows c.args.h c.args.spare) (met (goal.at.returns-in_default c).After-rows-t-3) c.in_default.is
+pub returns-in_err-rows-3 : goal.returns-in_err-rows-3
+returns-in_err-rows-3 c =
+    let at = goal.at.returns-in_err-rows-3 c in
+    rw (header_parts c.args.v c.args.h c.args.spare)
+    (passes (number_clear at.In_ok-check)
+    (passes c.in_ok-rows.ensures
+    (passes (pitot_clear at.In_ok-rows-2)
+    (refuses _ _ _ c.from_residual-in_err-rows-3.ensures.1 (c.in_err-rows-3.ensures ∙ ap (λ (l : ℕ). checks Clear (identity_rows (18 + l) c.args.h.nozzle)) c.letters-2.ensures)))))
 
 pub from-requires : goal.from-requires
 from-requires c =
-    let own = reading_rows c.args.h c.args.spare in
-    let reach : trouble_place c.reading_rows.result ≤ 63 = rw c.reading_rows.ensures (checks_reach 63 own refl) in
+    let reach : trouble_place (trouble_of c.reading_rows.result) ≤ 63 = rw c.reading_rows.ensures (checks_reach 63 (reading_rows c.args.h c.args.spare) refl) in
     omega (arith, few c.args.v 3, c.letters-3.ensures)
 
 pub returns : goal.returns
 returns c =
-    let v = c.args.v in
-    then_passed (front v c.args.h) (letters v 3) (reading_rows c.args.h c.args.spare) (met (goal.at.returns c).After-rows-t-3) c.in-Clear.is
-    c.reading_rows.ensures
-    c.letters-3.ensures
-    c.from.ensures
+    let at = goal.at.returns c in
+    rw (header_parts c.args.v c.args.h c.args.spare)
+    (passes (number_clear at.In_ok-check)
+    (passes c.in_ok-rows.ensures
+    (passes (pitot_clear at.In_ok-rows-2)
+    (passes (nozzle_clear at.In_ok-rows-3) (c.from.ensures ∙ ap₂ from c.letters-3.ensures c.reading_rows.ensures)))))

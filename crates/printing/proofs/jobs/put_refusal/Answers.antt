@@ -1,5 +1,6 @@
 -- Five parts, one after another.
 use mathlib.Core.List.{◌++◌}
+use Rattle.refusals.specs.Reasons.{reason_number}
 use Rattle.characters.specs.Numbers.{decimal}
 use Rattle.characters.specs.Words.{spelled}
 use Rattle.characters.specs.Writing.{Room}
@@ -10,37 +11,37 @@ use Rattle.printing.proofs.jobs.put_refusal.Goals as goal
 use Rattle.printing.proofs.jobs.put_refusal.Goals.{Start}
 
 -- room for the five parts, and for the first four of them
-room : (c : Start) → Room c.args.out.now c.args.at (refused_word ++ decimal c.args.number ++ space ++ decimal c.args.place ++ newline)
+room : (c : Start) → Room c.args.to.now (refused_word ++ decimal (reason_number c.args.e.why) ++ space ++ decimal c.args.e.place ++ newline)
 unfolding refusal_text
 room c =
     c.requires
 
-pub put_word-a-requires : goal.put_word-a-requires
+pub word-requires : goal.word-requires
 unfolding spelled
-put_word-a-requires c =
-    room_first refused_word (decimal c.args.number) space (decimal c.args.place) ((room_front _ _ (room (goal.at.put_word-a-requires c).Start)))
+word-requires c =
+    room_first refused_word (decimal (reason_number c.args.e.why)) space (decimal c.args.e.place) ((room_front _ _ (room (goal.at.word-requires c).Start)))
 
-pub put_decimal-b-requires : goal.put_decimal-b-requires
+pub decimal-requires : goal.decimal-requires
 unfolding spelled
-put_decimal-b-requires c =
-    room_second _ _ _ _ ((room_front _ _ (room (goal.at.put_decimal-b-requires c).Start))) c.put_word-a.ensures
+decimal-requires c =
+    rw c.number.ensures (room_second _ _ _ _ ((room_front _ _ (room (goal.at.decimal-requires c).Start))) c.word.ensures)
 
-pub put_word-c-requires : goal.put_word-c-requires
+pub word-requires-2 : goal.word-requires-2
 unfolding spelled
-put_word-c-requires c =
-    room_third _ _ _ _ ((room_front _ _ (room (goal.at.put_word-c-requires c).Start))) c.put_word-a.ensures c.put_decimal-b.ensures
+word-requires-2 c =
+    room_third _ _ _ _ ((room_front _ _ (room (goal.at.word-requires-2 c).Start))) c.word.ensures (rw c.number.ensures at c.decimal.ensures)
 
-pub put_decimal-d-requires : goal.put_decimal-d-requires
+pub decimal-requires-2 : goal.decimal-requires-2
 unfolding spelled
-put_decimal-d-requires c =
-    room_fourth _ _ _ _ ((room_front _ _ (room (goal.at.put_decimal-d-requires c).Start))) c.put_word-a.ensures c.put_decimal-b.ensures c.put_word-c.ensures
+decimal-requires-2 c =
+    room_fourth _ _ _ _ ((room_front _ _ (room (goal.at.decimal-requires-2 c).Start))) c.word.ensures (rw c.number.ensures at c.decimal.ensures) c.word-2.ensures
 
-pub put_word-requires : goal.put_word-requires
+pub word-requires-3 : goal.word-requires-3
 unfolding spelled
-put_word-requires c =
-    room_fifth _ _ _ _ _ (room (goal.at.put_word-requires c).Start) c.put_word-a.ensures c.put_decimal-b.ensures c.put_word-c.ensures c.put_decimal-d.ensures
+word-requires-3 c =
+    room_fifth _ _ _ _ _ (room (goal.at.word-requires-3 c).Start) c.word.ensures (rw c.number.ensures at c.decimal.ensures) c.word-2.ensures c.decimal-2.ensures
 
 pub returns : goal.returns
 unfolding refusal_text spelled
 returns c =
-    wrote_five _ _ _ _ _ (room (goal.at.returns c).Start) c.put_word-a.ensures c.put_decimal-b.ensures c.put_word-c.ensures c.put_decimal-d.ensures c.put_word.ensures
+    wrote_five _ _ _ _ _ (room (goal.at.returns c).Start) c.word.ensures (rw c.number.ensures at c.decimal.ensures) c.word-2.ensures c.decimal-2.ensures c.word-3.ensures

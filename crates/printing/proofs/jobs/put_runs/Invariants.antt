@@ -1,5 +1,5 @@
 -- The loop writes one run a turn.
-use Prim.Native.Nat.{◌-◌, ◌≤◌}
+use Prim.Native.Nat.{◌≤◌}
 use Rattle.reduction.specs.Reducing.{reduced_run}
 use Rattle.output.specs.Bytes.{joined}
 use Rattle.characters.specs.Writing.{Wrote}
@@ -8,8 +8,4 @@ use Rattle.printing.proofs.jobs.put_runs.Given as goal
 
 abbrev pub invariant-loop-k : goal.invariant-loop-k
 invariant-loop-k l =
-    (l.k ≤ l.runs) × Wrote l.initial.out 0 (joined (λ i. run_text (reduced_run l.figure l.s i)) l.k) l.out l.next
-
-abbrev pub decreases-loop-k : goal.decreases-loop-k
-decreases-loop-k l =
-    l.runs - l.k
+    (l.k ≤ l.job.runs) × Wrote l.initial.to (joined (λ i. run_text (reduced_run l.figure l.s i)) l.k) l.to

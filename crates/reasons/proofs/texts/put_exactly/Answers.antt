@@ -1,70 +1,9 @@
 -- Five parts, one after another.
-use mathlib.Core.List.{◌++◌}
-use Rattle.characters.specs.Writing.{Room}
-use mathlib.Core.Bool.{true}
-use lib.IntN.{pos}
 use Rattle.characters.specs.Words.{spelled}
-use Rattle.characters.proofs.Texts.{room_front, room_behind, wrote_more}
-use Rattle.reasons.specs.Text.{way_text, number_text, meaning_text, condition_text}
+use Rattle.reasons.specs.Text.{condition_text}
+use Rattle.characters.proofs.Texts.{wrote_five}
 use Rattle.reasons.proofs.texts.put_exactly.Goals as goal
-use Rattle.reasons.proofs.texts.put_exactly.Goals.{Start}
-
--- room for the parts, and for the first of them
-room_for_five : (c : Start) → Room c.args.out.now c.args.at (spelled "  COMPARED " ++ number_text true (pos c.args.c.quotient) (pos c.args.c.remainder) ++ way_text c.args.c.way ++ number_text true (pos c.args.c.limit) (pos 0) ++ meaning_text c.args.rule 1 c.args.round)
-unfolding condition_text
-room_for_five c =
-    c.requires
-
-room_for_four : (c : Start) → Room c.args.out.now c.args.at (spelled "  COMPARED " ++ number_text true (pos c.args.c.quotient) (pos c.args.c.remainder) ++ way_text c.args.c.way ++ number_text true (pos c.args.c.limit) (pos 0))
-room_for_four c =
-    room_front (spelled "  COMPARED " ++ number_text true (pos c.args.c.quotient) (pos c.args.c.remainder) ++ way_text c.args.c.way ++ number_text true (pos c.args.c.limit) (pos 0)) (meaning_text c.args.rule 1 c.args.round) (room_for_five c)
-
-room_for_three : (c : Start) → Room c.args.out.now c.args.at (spelled "  COMPARED " ++ number_text true (pos c.args.c.quotient) (pos c.args.c.remainder) ++ way_text c.args.c.way)
-room_for_three c =
-    room_front (spelled "  COMPARED " ++ number_text true (pos c.args.c.quotient) (pos c.args.c.remainder) ++ way_text c.args.c.way) (number_text true (pos c.args.c.limit) (pos 0)) (room_for_four c)
-
-room_for_two : (c : Start) → Room c.args.out.now c.args.at (spelled "  COMPARED " ++ number_text true (pos c.args.c.quotient) (pos c.args.c.remainder))
-room_for_two c =
-    room_front (spelled "  COMPARED " ++ number_text true (pos c.args.c.quotient) (pos c.args.c.remainder)) (way_text c.args.c.way) (room_for_three c)
-
-room_for_one : (c : Start) → Room c.args.out.now c.args.at (spelled "  COMPARED ")
-room_for_one c =
-    room_front (spelled "  COMPARED ") (number_text true (pos c.args.c.quotient) (pos c.args.c.remainder)) (room_for_two c)
-
-pub put_word-a-requires : goal.put_word-a-requires
-unfolding spelled
-put_word-a-requires c = room_for_one (goal.at.put_word-a-requires c).Start
-
-pub put_quotient-left-requires : goal.put_quotient-left-requires
-unfolding spelled
-put_quotient-left-requires c =
-    room_behind _ c.put_word-a.ensures (room_for_two (goal.at.put_quotient-left-requires c).Start)
-
-pub put_way-middle-requires : goal.put_way-middle-requires
-unfolding spelled
-put_way-middle-requires c =
-    let after_two = wrote_more c.put_word-a.ensures c.put_quotient-left.ensures (room_for_two (goal.at.put_way-middle-requires c).Start) in
-    room_behind _ (after_two) (room_for_three (goal.at.put_way-middle-requires c).Start)
-
-pub put_quotient-right-requires : goal.put_quotient-right-requires
-unfolding spelled
-put_quotient-right-requires c =
-    let after_two = wrote_more c.put_word-a.ensures c.put_quotient-left.ensures (room_for_two (goal.at.put_quotient-right-requires c).Start) in
-    let after-three = wrote_more (after_two) c.put_way-middle.ensures (room_for_three (goal.at.put_quotient-right-requires c).Start) in
-    room_behind _ (after-three) (room_for_four (goal.at.put_quotient-right-requires c).Start)
-
-pub put_meaning-requires : goal.put_meaning-requires
-unfolding spelled
-put_meaning-requires c =
-    let after_two = wrote_more c.put_word-a.ensures c.put_quotient-left.ensures (room_for_two (goal.at.put_meaning-requires c).Start) in
-    let after-three = wrote_more (after_two) c.put_way-middle.ensures (room_for_three (goal.at.put_meaning-requires c).Start) in
-    let after-four = wrote_more (after-three) c.put_quotient-right.ensures (room_for_four (goal.at.put_meaning-requires c).Start) in
-    room_behind _ (after-four) (room_for_five (goal.at.put_meaning-requires c).Start)
 
 pub returns : goal.returns
 unfolding condition_text spelled
-returns c =
-    let after_two = wrote_more c.put_word-a.ensures c.put_quotient-left.ensures (room_for_two (goal.at.returns c).Start) in
-    let after-three = wrote_more (after_two) c.put_way-middle.ensures (room_for_three (goal.at.returns c).Start) in
-    let after-four = wrote_more (after-three) c.put_quotient-right.ensures (room_for_four (goal.at.returns c).Start) in
-    wrote_more (after-four) c.put_meaning.ensures (room_for_five (goal.at.returns c).Start)
+returns c = wrote_five _ _ _ _ _ c.requires c.word.ensures c.put_quotient.ensures c.put_way.ensures c.put_quotient-2.ensures c.put_meaning.ensures

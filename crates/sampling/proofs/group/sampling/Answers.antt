@@ -1,19 +1,18 @@
 -- Lines 16 to 20 together: each call's promise, and the ranges that the next one asks.
+use mathlib.Core.Path.{subst⁻¹}
 use native.Mathlib.Omega.{arith}
-use Rattle.sampling.proofs.RunInRange.{weighings_ok}
-use Rattle.sampling.proofs.Together.{is_sampling}
-use mathlib.Core.Path.{◌∙◌, subst⁻¹}
 use mir.Facts.{to_z-of_z}
+use Rattle.std.proofs.Common.{◌≤◌, length, ◌∙◌}
 use Rattle.sampling.specs.Promise.{CatchOk}
 use Rattle.sampling.proofs.Difference.{catch_fits}
+use Rattle.sampling.proofs.RunInRange.{weighings_few, weighings_ok}
+use Rattle.sampling.proofs.Taken.{weighings_taken, catch_taken}
+use Rattle.sampling.proofs.Together.{is_sampling}
 use Rattle.sampling.proofs.group.sampling.Goals as goal
 
-pub overflow_cast-header : goal.overflow_cast-header
-overflow_cast-header c = omega (arith, (weighings_ok _ c.requires.run).few)
-
-pub catch-caught-requires : goal.catch-caught-requires
-catch-caught-requires c =
-    record { weighings = weighings_ok _ c.requires.run; acetone = c.requires.run.header.acetone }
+pub catch-caught-requires-clause-weighings : goal.catch-caught-requires-clause-weighings
+catch-caught-requires-clause-weighings c =
+    weighings_taken _ _ (omega (arith, weighings_few _ c.requires.run)) (weighings_ok _ c.requires.run)
 
 pub returns : goal.returns
 returns c =
@@ -22,8 +21,9 @@ returns c =
     let drawn = c.drawn_gas-drawn.ensures in
     let area = c.nozzle_area-area.ensures in
     let percent = c.isokinetic.ensures in
-    let grains = c.concentration.ensures in (
-      is_sampling _ _ _ _ area.is drawn.is (back ∙ caught.is) percent.is grains.is,
+    let grains = c.concentration.ensures in
+    let whole : c.args.run.header.counts.weighings ≤ length c.args.run.weighings = omega (arith, weighings_few _ c.requires.run) in (
+      is_sampling _ _ _ _ area.is drawn.is (back ∙ (caught.is ∙ catch_taken _ _ whole _)) percent.is grains.is,
       record {
         area = area.range;
         drawn = drawn.range;

@@ -8,7 +8,7 @@ use Rattle.stack.proofs.group.stack.Goals as goal
 pub returns : goal.returns
 returns c =
     let density = c.density_root-density.ensures in
-    let points = c.stack_points-read.ensures in
+    let points = c.stack_points-temperature.ensures in
     let root = points.root in
     let temperature = points.temperature in
     let pressure = c.stack_pressure-pressure.ensures in

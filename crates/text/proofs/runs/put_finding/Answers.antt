@@ -9,31 +9,31 @@ use Rattle.text.proofs.runs.put_finding.Goals as goal
 use Rattle.text.proofs.runs.put_finding.Goals.{Start}
 
 -- room for the five parts, and for the first four of them
-room : (c : Start) → Room c.args.out.now c.args.at (class_name c.args.f.class ++ decimal c.args.f.rule ++ space ++ decimal c.args.f.place ++ newline)
+room : (c : Start) → Room c.args.to.now (class_name c.args.f.class ++ decimal c.args.f.rule ++ space ++ decimal c.args.f.place ++ newline)
 unfolding finding_text
 room c =
     c.requires
 
-pub put_class-a-requires : goal.put_class-a-requires
-put_class-a-requires c = room_first _ _ _ _ ((room_front _ _ (room (goal.at.put_class-a-requires c).Start)))
+pub put_class-requires : goal.put_class-requires
+put_class-requires c = room_first _ _ _ _ ((room_front _ _ (room (goal.at.put_class-requires c).Start)))
 
-pub put_decimal-b-requires : goal.put_decimal-b-requires
-put_decimal-b-requires c =
-    room_second _ _ _ _ ((room_front _ _ (room (goal.at.put_decimal-b-requires c).Start))) c.put_class-a.ensures
+pub decimal-requires : goal.decimal-requires
+decimal-requires c =
+    room_second _ _ _ _ ((room_front _ _ (room (goal.at.decimal-requires c).Start))) c.put_class.ensures
 
-pub put_word-c-requires : goal.put_word-c-requires
-put_word-c-requires c =
-    room_third _ _ _ _ ((room_front _ _ (room (goal.at.put_word-c-requires c).Start))) c.put_class-a.ensures c.put_decimal-b.ensures
+pub word-requires : goal.word-requires
+word-requires c =
+    room_third _ _ _ _ ((room_front _ _ (room (goal.at.word-requires c).Start))) c.put_class.ensures c.decimal.ensures
 
-pub put_decimal-d-requires : goal.put_decimal-d-requires
-put_decimal-d-requires c =
-    room_fourth _ _ _ _ ((room_front _ _ (room (goal.at.put_decimal-d-requires c).Start))) c.put_class-a.ensures c.put_decimal-b.ensures c.put_word-c.ensures
+pub decimal-requires-2 : goal.decimal-requires-2
+decimal-requires-2 c =
+    room_fourth _ _ _ _ ((room_front _ _ (room (goal.at.decimal-requires-2 c).Start))) c.put_class.ensures c.decimal.ensures c.word.ensures
 
-pub put_word-requires : goal.put_word-requires
-put_word-requires c =
-    room_fifth _ _ _ _ _ (room (goal.at.put_word-requires c).Start) c.put_class-a.ensures c.put_decimal-b.ensures c.put_word-c.ensures c.put_decimal-d.ensures
+pub word-requires-2 : goal.word-requires-2
+word-requires-2 c =
+    room_fifth _ _ _ _ _ (room (goal.at.word-requires-2 c).Start) c.put_class.ensures c.decimal.ensures c.word.ensures c.decimal-2.ensures
 
 pub returns : goal.returns
 unfolding finding_text
 returns c =
-    wrote_five _ _ _ _ _ (room (goal.at.returns c).Start) c.put_class-a.ensures c.put_decimal-b.ensures c.put_word-c.ensures c.put_decimal-d.ensures c.put_word.ensures
+    wrote_five _ _ _ _ _ (room (goal.at.returns c).Start) c.put_class.ensures c.decimal.ensures c.word.ensures c.decimal-2.ensures c.word-2.ensures

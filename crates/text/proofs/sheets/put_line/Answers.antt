@@ -8,26 +8,26 @@ use Rattle.text.proofs.sheets.put_line.Goals as goal
 use Rattle.text.proofs.sheets.put_line.Goals.{Start}
 
 -- room for the parts of a line
-room : (c : Start) → Room c.args.out.now c.args.at (decimal c.args.number ++ space ++ value_text c.args.entry.line ++ newline)
+room : (c : Start) → Room c.args.to.now (decimal c.args.number ++ space ++ value_text c.args.entry.line ++ newline)
 unfolding line_text
 room c =
     c.requires
 
-pub put_decimal-a-requires : goal.put_decimal-a-requires
-put_decimal-a-requires c = room_first _ _ _ _ (room (goal.at.put_decimal-a-requires c).Start)
+pub decimal-requires : goal.decimal-requires
+decimal-requires c = room_first _ _ _ _ (room (goal.at.decimal-requires c).Start)
 
-pub put_word-b-requires : goal.put_word-b-requires
-put_word-b-requires c = room_second _ _ _ _ (room (goal.at.put_word-b-requires c).Start) c.put_decimal-a.ensures
+pub word-requires : goal.word-requires
+word-requires c = room_second _ _ _ _ (room (goal.at.word-requires c).Start) c.decimal.ensures
 
-pub put_value-c-requires : goal.put_value-c-requires
-put_value-c-requires c =
-    room_third _ _ _ _ (room (goal.at.put_value-c-requires c).Start) c.put_decimal-a.ensures c.put_word-b.ensures
+pub put_value-requires : goal.put_value-requires
+put_value-requires c =
+    room_third _ _ _ _ (room (goal.at.put_value-requires c).Start) c.decimal.ensures c.word.ensures
 
-pub put_word-requires : goal.put_word-requires
-put_word-requires c =
-    room_fourth _ _ _ _ (room (goal.at.put_word-requires c).Start) c.put_decimal-a.ensures c.put_word-b.ensures c.put_value-c.ensures
+pub word-requires-2 : goal.word-requires-2
+word-requires-2 c =
+    room_fourth _ _ _ _ (room (goal.at.word-requires-2 c).Start) c.decimal.ensures c.word.ensures c.put_value.ensures
 
 pub returns : goal.returns
 unfolding line_text
 returns c =
-    wrote_four _ _ _ _ (room (goal.at.returns c).Start) c.put_decimal-a.ensures c.put_word-b.ensures c.put_value-c.ensures c.put_word.ensures
+    wrote_four _ _ _ _ (room (goal.at.returns c).Start) c.decimal.ensures c.word.ensures c.put_value.ensures c.word-2.ensures

@@ -1,5 +1,5 @@
 -- The loop writes one line a turn.
-use Prim.Native.Nat.{◌-◌, ◌≤◌}
+use Prim.Native.Nat.{◌≤◌}
 use Rattle.lines.specs.Sheet.{line_count}
 use Rattle.output.specs.Bytes.{joined}
 use Rattle.characters.specs.Writing.{Wrote}
@@ -8,8 +8,4 @@ use Rattle.text.proofs.sheets.put_sheet.Given as goal
 
 abbrev pub invariant-loop-i : goal.invariant-loop-i
 invariant-loop-i l =
-    (l.i ≤ line_count) × Wrote l.initial.out l.at (joined (line_at l.entries) l.i) l.out l.next
-
-abbrev pub decreases-loop-i : goal.decreases-loop-i
-decreases-loop-i l =
-    line_count - l.i
+    (l.i ≤ line_count) × Wrote l.fn.to (joined (line_at l.sheet.entries) l.i) l.to

@@ -1,4 +1,5 @@
 -- By the two cases of a line.
+use Rattle.std.specs.Prelude.{Option, Some}
 use Prim.Native.Nat.{◌^◌, ◌<◌}
 use mathlib.Core.Path.{◌≡◌}
 use native.Mathlib.Omega.{arith}
@@ -7,28 +8,26 @@ use lib.Signed.{mag}
 use mir.Facts.{to_z-of_z}
 use mir.Syntax.{w64}
 use mir.Val.{to_z, of_z}
-use Rattle.lines.specs.declared.Line.{Line}
-use Rattle.lines.specs.declared.Line.TheVariants.{Present}
 use Rattle.characters.specs.Numbers.{signed_decimal}
 use Rattle.text.specs.Sheets.{value_text}
 use Rattle.text.proofs.sheets.put_value.Goals as goal
 
 -- the text of a line that is there
-present_text : {line : Line} {z : ℤ} → line ≡ Present z → mag z < 2 ^ 63 → value_text line ≡ signed_decimal (to_z w64 (of_z w64 z))
+present_text : {line : Option ℤ} {z : ℤ} → line ≡ Some z → mag z < 2 ^ 63 → value_text line ≡ signed_decimal (to_z w64 (of_z w64 z))
 unfolding value_text
 present_text e small = rw (e, to_z-of_z {w = w64} (record { sfits = small }))
 
-pub put_word-requires : goal.put_word-requires
+pub word-requires : goal.word-requires
 unfolding value_text
-put_word-requires c = rw c.in_default.is at c.requires
+word-requires c = rw c.in-None.is at c.requires
 
-pub returns-in_default : goal.returns-in_default
+pub returns-in-None : goal.returns-in-None
 unfolding value_text
-returns-in_default c = rw c.in_default.is c.put_word.ensures
+returns-in-None c = rw c.in-None.is c.word.ensures
 
-pub put_signed-requires : goal.put_signed-requires
-put_signed-requires c = rw (present_text c.in-Present.is (omega arith)) at c.requires
+pub signed-requires : goal.signed-requires
+signed-requires c = rw (present_text c.in-Some.is (omega arith)) at c.requires
 
-pub returns : goal.returns
-returns c =
-    rw (present_text c.in-Present.is (omega arith)) c.put_signed.ensures
+pub returns-in-Some : goal.returns-in-Some
+returns-in-Some c =
+    rw (present_text c.in-Some.is (omega arith)) c.signed.ensures

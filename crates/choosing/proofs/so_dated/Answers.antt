@@ -1,8 +1,0 @@
--- `so_dated` is `so_dated`, side by side.
-use Rattle.choosing.proofs.so_dated.Goals as goal
-
-pub returns-then-after : goal.returns-then-after
-returns-then-after c = rw c.if-after.true
-
-pub returns : goal.returns
-returns c = rw c.if-after.false

@@ -1,2 +1,0 @@
--- The laws of lengths, which the layers above cite.
-pub mod Products

@@ -1,0 +1,11 @@
+-- By the two cases of an answer.
+use Rattle.output.specs.Answers.{packed}
+use Rattle.output.proofs.packed.Goals as goal
+
+pub returns-in-Ok : goal.returns-in-Ok
+unfolding packed
+returns-in-Ok c = rw c.in-Ok.is
+
+pub returns-in-Err : goal.returns-in-Err
+unfolding packed
+returns-in-Err c = rw (c.in-Err.is, c.number.ensures)

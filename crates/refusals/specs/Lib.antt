@@ -1,0 +1,2 @@
+-- Why a file or a call is refused.
+pub mod Reasons
