@@ -2,7 +2,9 @@
 //! of a refusal.
 
 use std::fs::{File, OpenOptions};
+use std::io::Write;
 use std::process::{Command, Stdio};
+use std::thread;
 
 use crate::folder::{example, example_bytes};
 use crate::run::{ended, leverbonnet, shell, Ended};
@@ -93,14 +95,19 @@ fn an_output_open_for_reading_only_is_told() {
     }
 }
 
-/// A pipe that nobody reads any more.
+/// A pipe that nobody reads any more. What another test starts meanwhile holds
+/// its reading end too, until it runs its program: so it is written to until
+/// nobody takes it.
 fn closed_pipe() -> Stdio {
     let mut reader = Command::new("true")
         .stdin(Stdio::piped())
         .spawn()
         .expect("true can be started");
-    let pipe = reader.stdin.take().expect("it is piped");
+    let mut pipe = reader.stdin.take().expect("it is piped");
     reader.wait().expect("it can be waited for");
+    while pipe.write(b" ").is_ok() {
+        thread::yield_now();
+    }
     pipe.into()
 }
 
