@@ -1,41 +1,19 @@
 -- The laws of what the code answers, read as trouble.
-use Prim.Native.Nat.{ℕ, suc, ◌+◌, ◌<◌, ◌≤◌}
+use Prim.Native.Nat.{ℕ, ◌+◌, ◌<◌}
 use mathlib.Core.Path.{◌≡◌, refl, sym, ◌∙◌}
-use mathlib.Core.Bool.{true, false}
-use mathlib.Core.List.{List, ◌∷◌}
-use native.Mathlib.Numerals.{add-one}
-use lib.ListN.{length, get_or, drop, drop_of_length-le}
-use lib.Seq.{drop-cons}
 use Rattle.refusals.specs.Reasons.{reason_number}
 use Rattle.std.specs.Prelude.{Result, Ok, Err, IsErrAnd}
+use Rattle.std.specs.Result.{result_and}
 use Rattle.fields.specs.declared.trouble.BadFile.{BadFile}
-use Rattle.fields.specs.declared.trouble.Row.{Row as Told}
-use Rattle.fields.specs.Trouble.{Trouble, Clear, At, first, checks, up_to}
-use Rattle.fields.specs.Refusals.{trouble_of, as_rows}
-use Rattle.fields.proofs.FirstTrouble.{first_at, first_clear, checks_first, goes_on, stops}
+use Rattle.fields.specs.Trouble.{Trouble, Clear, At, first, up_to}
+use Rattle.fields.specs.Refusals.{trouble_of}
+use Rattle.fields.proofs.FirstTrouble.{first_at, first_clear, goes_on, stops}
 
--- A loop over rows, where those from i on tell what all do
-
--- the next one is not good: it is the answer
-pub row_fails : (rows : List Told) (i : ℕ) (d : Told) → i < length rows → checks Clear (as_rows (drop i rows)) ≡ checks Clear (as_rows rows) → (get_or rows i d).ok ≡ false → At (reason_number (get_or rows i d).why) (get_or rows i d).place ≡ checks Clear (as_rows rows)
-unfolding checks first
-row_fails rows i d inside e failed = own (get_or rows i d) (drop (suc i) rows) failed ∙ rw (drop-cons rows i d inside) at e
-  where
-    own : (r : Told) (rs : List Told) → r.ok ≡ false → At (reason_number r.why) r.place ≡ checks Clear (as_rows (r ∷ rs))
-    own r rs bad = rw bad (sym (checks_first (At (reason_number r.why) r.place) (as_rows rs)))
-
--- it is good: the rest tell the same
-pub row_passes : (rows : List Told) (i : ℕ) (d : Told) → i < length rows → checks Clear (as_rows (drop i rows)) ≡ checks Clear (as_rows rows) → (get_or rows i d).ok ≡ true → checks Clear (as_rows (drop (i + 1) rows)) ≡ checks Clear (as_rows rows)
-unfolding checks first
-row_passes rows i d inside e passed = rw add-one (own (get_or rows i d) (drop (suc i) rows) passed ∙ rw (drop-cons rows i d inside) at e)
-  where
-    own : (r : Told) (rs : List Told) → r.ok ≡ true → checks Clear (as_rows rs) ≡ checks Clear (as_rows (r ∷ rs))
-    own r rs good = rw good
-
--- none is left
-pub rows_end : (rows : List Told) (i : ℕ) → length rows ≤ i → checks Clear (as_rows (drop i rows)) ≡ checks Clear (as_rows rows) → Clear ≡ checks Clear (as_rows rows)
-unfolding checks
-rows_end rows i past e = rw (drop_of_length-le rows past) at e
+-- Rows one after the other: those of a tell t, that of b tells u
+pub adds : {q : Result (Unit {0}) BadFile} (a b : Result (Unit {0}) BadFile) {t u : Trouble} → q ≡ result_and a b → trouble_of a ≡ t → trouble_of b ≡ u → trouble_of q ≡ first t u
+unfolding first
+adds (Ok x) b e f g = rw (e, ← f) g
+adds (Err y) b e f g = rw (e, ← f) refl
 
 -- What a `?` hands on: q is the error e of the call
 pub handed : {A : Type 0} (q : Result A BadFile) (e : BadFile) {t : Trouble} → IsErrAnd q (λ y. y ≡ e) → At (reason_number e.why) e.place ≡ t → trouble_of q ≡ t

@@ -1,8 +1,9 @@
 // The first trouble met in a file: why it is refused, and the place that this is about.
 
 ghost use Rattle.std.specs.Prelude.{◌≡◌, ◌+◌, ◌^◌, ◌<◌};
-ghost use Rattle.fields.specs.Trouble.{Clear, count, field, checks, trouble_place, from};
-ghost use Rattle.fields.specs.Refusals.{as_row, as_rows, trouble_of};
+ghost use Rattle.refusals.specs.Reasons.{reason_number};
+ghost use Rattle.fields.specs.Trouble.{trouble_unless, count_range, field_range, trouble_place, from};
+ghost use Rattle.fields.specs.Refusals.{trouble_of};
 
 use refusals::Reason;
 
@@ -25,49 +26,28 @@ pub fn from(start: usize, found: Result<(), BadFile>) -> Result<(), BadFile>
     })
 }
 
-// A row of a record's table: whether all is well, and else why the file is refused, and the field's place in the record.
-#[derive(Clone, Copy)]
-pub struct Row {
-    pub ok: bool,
-    pub why: Reason,
-    pub place: usize,
-}
-
-impl Row {
-    // The row of a count.
-    pub fn count(place: usize, ok: bool) -> Row
-        ensures { as_row result ≡ count place ok }
-    {
-        Row {
-            ok,
-            why: Reason::Count,
-            place,
-        }
-    }
-
-    // The row of a field other than a count.
-    pub fn field(place: usize, ok: bool) -> Row
-        ensures { as_row result ≡ field place ok }
-    {
-        Row {
-            ok,
-            why: Reason::Field,
-            place,
-        }
-    }
-}
-
-// The rows from the first to the last: the first that is not good is the answer.
-pub fn check(rows: &[Row]) -> Result<(), BadFile>
-    ensures { trouble_of result ≡ checks Clear (as_rows rows.now) }
+// A row of a record's table: all is well, or the file is refused for this, at the field's place in the record. Rows stand one after the
+// other by `and`, so that the first that is not good is the answer.
+pub fn row(ok: bool, why: Reason, place: usize) -> Result<(), BadFile>
+    ensures { trouble_of result ≡ trouble_unless ok (reason_number why) place }
 {
-    for row in rows {
-        if !row.ok {
-            return Err(BadFile {
-                why: row.why,
-                place: row.place,
-            });
-        }
+    if ok {
+        Ok(())
+    } else {
+        Err(BadFile { why, place })
     }
-    Ok(())
+}
+
+// The row of a count.
+pub fn count(place: usize, ok: bool) -> Result<(), BadFile>
+    ensures { trouble_of result ≡ trouble_unless ok count_range place }
+{
+    row(ok, Reason::Count, place)
+}
+
+// The row of a field other than a count.
+pub fn field(place: usize, ok: bool) -> Result<(), BadFile>
+    ensures { trouble_of result ≡ trouble_unless ok field_range place }
+{
+    row(ok, Reason::Field, place)
 }

@@ -6,7 +6,7 @@ ghost use Rattle.fields.specs.Trouble.{Clear, checks};
 ghost use Rattle.fields.specs.Refusals.{trouble_of};
 ghost use Rattle.figures.specs.Figures.{field_rows};
 
-use fields::trouble::{self, BadFile, Row};
+use fields::trouble::{self, BadFile};
 use refusals::Reason;
 
 // The byte at a place, 0 past the end.
@@ -29,16 +29,9 @@ pub fn met(s: &[u8], at: usize, width: usize, good: bool) -> Result<(), BadFile>
     requires { at + width < 2 ^ 64 }
     ensures { trouble_of result ≡ checks Clear (field_rows s.now at width good) }
 {
-    trouble::check(&[
-        Row {
-            ok: at + width <= s.len(),
-            why: Reason::Figure,
-            place: s.len(),
-        },
-        Row {
-            ok: good,
-            why: Reason::Figure,
-            place: at,
-        },
-    ])
+    trouble::row(at + width <= s.len(), Reason::Figure, s.len()).and(trouble::row(
+        good,
+        Reason::Figure,
+        at,
+    ))
 }

@@ -13,7 +13,7 @@ ghost use Rattle.fields.specs.Refusals.{trouble_of};
 ghost use Rattle.figures.specs.Figures.{figure_marked, opening_rows, figure_trouble, read_figure, told_figure};
 
 use crate::bytes::{met, number};
-use fields::trouble::{self, BadFile, Row};
+use fields::trouble::{self, BadFile};
 use readings::figures::FigureVersion;
 use readings::range::Reading;
 use refusals::Reason;
@@ -53,11 +53,7 @@ fn trouble(s: &[u8]) -> Result<(), BadFile>
     let next_at = lists::end(s, LAST_AT);
     lists::trouble(s, next_at)?;
     let end = lists::end(s, next_at);
-    trouble::check(&[Row {
-        ok: s.len() <= end,
-        why: Reason::Figure,
-        place: end,
-    }])
+    trouble::row(s.len() <= end, Reason::Figure, end)
 }
 
 // The figure in a file, or the first trouble met in it.

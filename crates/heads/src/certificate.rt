@@ -7,7 +7,7 @@ ghost use Rattle.heads.specs.Values.{certificate_size, certificate, certificate_
 ghost use Rattle.heads.specs.Rows.{good_first, good_later, value_rows, certificate_rows, certificate_trouble};
 
 use fields::numbers;
-use fields::trouble::{self, BadFile, Row};
+use fields::trouble::{self, BadFile};
 use opening::JobFile;
 use readings::certificates::{CertificateKind, Coefficient, Factor, NozzleDiameter, Unused};
 use readings::headers::Version;
@@ -93,17 +93,15 @@ fn good_later(kind: u8, value: u16) -> bool
 fn value_rows(c: Certificate) -> Result<(), BadFile>
     ensures { trouble_of result ≡ checks Clear (value_rows c) }
 {
-    trouble::check(&[
-        Row::field(10, good_first(c.kind, c.first)),
-        Row::field(12, good_later(c.kind, c.second)),
-        Row::field(14, good_later(c.kind, c.third)),
-    ])
+    trouble::field(10, good_first(c.kind, c.first))
+        .and(trouble::field(12, good_later(c.kind, c.second)))
+        .and(trouble::field(14, good_later(c.kind, c.third)))
 }
 
 fn rows(v: Version, c: Certificate) -> Result<(), BadFile>
     ensures { trouble_of result ≡ checks Clear (certificate_rows v c) }
 {
-    trouble::check(&[Row::field(0, CertificateKind::check(c.kind))])?;
+    trouble::field(0, CertificateKind::check(c.kind))?;
     identities::rows(c.identity, 1)?;
     trouble::from(opening::letters(v, 1), value_rows(c))
 }

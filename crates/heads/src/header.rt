@@ -8,7 +8,7 @@ ghost use Rattle.heads.specs.Values.{run_header_size, site, acetone, counts, hea
 ghost use Rattle.heads.specs.Rows.{reading_rows, header_rows, header_trouble};
 
 use fields::numbers;
-use fields::trouble::{self, BadFile, Row};
+use fields::trouble::{self, BadFile};
 use opening::JobFile;
 use readings::certificates::Unused;
 use readings::headers::Version;
@@ -101,31 +101,29 @@ pub fn header(t: &[u8], v: Version) -> RunHeader
 fn reading_rows(h: RunHeader, spare: u8) -> Result<(), BadFile>
     ensures { trouble_of result ≡ checks Clear (reading_rows h spare) }
 {
-    trouble::check(&[
-        Row::field(25, Barometer::check(h.pb)),
-        Row::field(27, StaticPressure::check(h.pg)),
-        Row::field(29, CarbonDioxide::check(h.co2)),
-        Row::field(31, Oxygen::check(h.o2, h.co2)),
-        Row::field(33, FirstReading::check(h.first)),
-        Row::field(37, LastReading::check(h.last, h.first)),
-        Row::field(41, Water::check(h.water)),
-        Row::field(43, Shape::check(h.site.shape)),
-        Row::field(44, Side::check(h.site.first)),
-        Row::field(46, Side::check_second(h.site.second, h.site.shape)),
-        Row::field(54, BlankVolume::check(h.acetone.blank)),
-        Row::field(56, RinseVolume::check(h.acetone.rinse)),
-        Row::field(58, AcetoneDensity::check(h.acetone.density)),
-        Row::count(60, PointCount::check(h.counts.points)),
-        Row::count(61, SegmentCount::check(h.counts.segments)),
-        Row::count(62, WeighingCount::check(h.counts.weighings)),
-        Row::field(63, Unused::check(spare as u16)),
-    ])
+    trouble::field(25, Barometer::check(h.pb))
+        .and(trouble::field(27, StaticPressure::check(h.pg)))
+        .and(trouble::field(29, CarbonDioxide::check(h.co2)))
+        .and(trouble::field(31, Oxygen::check(h.o2, h.co2)))
+        .and(trouble::field(33, FirstReading::check(h.first)))
+        .and(trouble::field(37, LastReading::check(h.last, h.first)))
+        .and(trouble::field(41, Water::check(h.water)))
+        .and(trouble::field(43, Shape::check(h.site.shape)))
+        .and(trouble::field(44, Side::check(h.site.first)))
+        .and(trouble::field(46, Side::check_second(h.site.second, h.site.shape)))
+        .and(trouble::field(54, BlankVolume::check(h.acetone.blank)))
+        .and(trouble::field(56, RinseVolume::check(h.acetone.rinse)))
+        .and(trouble::field(58, AcetoneDensity::check(h.acetone.density)))
+        .and(trouble::count(60, PointCount::check(h.counts.points)))
+        .and(trouble::count(61, SegmentCount::check(h.counts.segments)))
+        .and(trouble::count(62, WeighingCount::check(h.counts.weighings)))
+        .and(trouble::field(63, Unused::check(spare as u16)))
 }
 
 fn rows(v: Version, h: RunHeader, spare: u8) -> Result<(), BadFile>
     ensures { trouble_of result ≡ checks Clear (header_rows v h spare) }
 {
-    trouble::check(&[Row::field(0, RunNumber::check(h.number))])?;
+    trouble::field(0, RunNumber::check(h.number))?;
     identities::rows(h.meter, 4)?;
     identities::rows(h.pitot, 11 + opening::letters(v, 1))?;
     identities::rows(h.nozzle, 18 + opening::letters(v, 2))?;

@@ -12,7 +12,7 @@ ghost use Rattle.opening.specs.Opening.{letters};
 ghost use Rattle.identities.specs.Identities.{letter_at, identity, behind, identity_rows};
 
 use fields::numbers;
-use fields::trouble::{self, BadFile, Row};
+use fields::trouble::{self, BadFile};
 use readings::certificates::{Letter, RebuildLetter, Serial};
 use readings::headers::Version;
 use readings::range::Reading;
@@ -72,9 +72,7 @@ pub fn rows(id: Identity, at: usize) -> Result<(), BadFile>
     requires { at + 7 < 2 ^ 64 }
     ensures { trouble_of result ≡ checks Clear (identity_rows at id) }
 {
-    trouble::check(&[
-        Row::field(at, maker_letters(id.maker)),
-        Row::field(at + 3, Serial::check(id.serial)),
-        Row::field(at + 7, RebuildLetter::check(id.letter)),
-    ])
+    trouble::field(at, maker_letters(id.maker))
+        .and(trouble::field(at + 3, Serial::check(id.serial)))
+        .and(trouble::field(at + 7, RebuildLetter::check(id.letter)))
 }

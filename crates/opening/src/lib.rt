@@ -5,11 +5,12 @@
 #![tactic(auto)]
 
 ghost use Rattle.std.specs.Prelude.{◌≡◌, ◌≤◌, length};
+ghost use Rattle.fields.specs.Trouble.{Clear, checks};
 ghost use Rattle.fields.specs.Refusals.{trouble_of};
-ghost use Rattle.opening.specs.Opening.{file_header_size, marked, version_of, letters, file_trouble};
+ghost use Rattle.opening.specs.Opening.{file_header_size, marked, version_of, letters, file_rows, file_trouble};
 
 use fields::numbers;
-use fields::trouble::{self, BadFile, Row};
+use fields::trouble::{self, BadFile};
 use readings::headers::{CertificateCount, RunCount, Version};
 use readings::range::Reading;
 use refusals::Reason;
@@ -81,6 +82,24 @@ pub fn letters(v: Version, n: usize) -> usize
     n * each(v)
 }
 
+// The rows of the header.
+fn rows(s: &[u8]) -> Result<(), BadFile>
+    requires { file_header_size ≤ length s.now }
+    ensures { trouble_of result ≡ checks Clear (file_rows s.now) }
+{
+    trouble::row(marked(s), Reason::Mark, 0)
+        .and(trouble::row(
+            Version::check(numbers::u16_at(s, VERSION_AT)),
+            Reason::Version,
+            VERSION_AT,
+        ))
+        .and(trouble::count(
+            CERTIFICATES_AT,
+            CertificateCount::check(numbers::u16_at(s, CERTIFICATES_AT)),
+        ))
+        .and(trouble::count(RUNS_AT, RunCount::check(numbers::u16_at(s, RUNS_AT))))
+}
+
 // The first trouble met in the header.
 pub fn trouble(s: &[u8]) -> Result<(), BadFile>
     ensures { trouble_of result ≡ file_trouble s.now }
@@ -91,21 +110,5 @@ pub fn trouble(s: &[u8]) -> Result<(), BadFile>
             place: s.len(),
         });
     }
-    trouble::check(&[
-        Row {
-            ok: marked(s),
-            why: Reason::Mark,
-            place: 0,
-        },
-        Row {
-            ok: Version::check(numbers::u16_at(s, VERSION_AT)),
-            why: Reason::Version,
-            place: VERSION_AT,
-        },
-        Row::count(
-            CERTIFICATES_AT,
-            CertificateCount::check(numbers::u16_at(s, CERTIFICATES_AT)),
-        ),
-        Row::count(RUNS_AT, RunCount::check(numbers::u16_at(s, RUNS_AT))),
-    ])
+    rows(s)
 }

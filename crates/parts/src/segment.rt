@@ -8,7 +8,7 @@ ghost use Rattle.parts.specs.Rows.{segment_rows};
 
 use crate::part::Part;
 use fields::numbers;
-use fields::trouble::{self, BadFile, Row};
+use fields::trouble::{self, BadFile};
 use readings::points::{LeakRate, Seconds};
 use readings::range::Reading;
 use records::Segment;
@@ -33,10 +33,7 @@ impl Part for Segment {
 
     fn check(t: &[u8]) -> Result<(), BadFile> {
         let g = Segment::read(t);
-        trouble::check(&[
-            Row::field(0, Seconds::check(g.seconds)),
-            Row::field(2, LeakRate::check(g.leak)),
-        ])
+        trouble::field(0, Seconds::check(g.seconds)).and(trouble::field(2, LeakRate::check(g.leak)))
     }
 
     fn none() -> Segment {

@@ -9,7 +9,7 @@ ghost use Rattle.parts.specs.Rows.{weighing_rows};
 
 use crate::part::Part;
 use fields::numbers;
-use fields::trouble::{self, BadFile, Row};
+use fields::trouble::{self, BadFile};
 use readings::certificates::Unused;
 use readings::range::Reading;
 use readings::weighings::{WeighingKind, Weight};
@@ -37,13 +37,11 @@ impl Part for Weighing {
 
     fn check(t: &[u8]) -> Result<(), BadFile> {
         let w = Weighing::read(t);
-        trouble::check(&[
-            Row::field(0, WeighingKind::check(w.kind)),
-            Row::field(1, Unused::check(numbers::byte(t, 1) as u16)),
-            Row::field(2, Weight::check(w.tare)),
-            Row::field(6, Weight::check(w.first)),
-            Row::field(10, Weight::check(w.second)),
-        ])
+        trouble::field(0, WeighingKind::check(w.kind))
+            .and(trouble::field(1, Unused::check(numbers::byte(t, 1) as u16)))
+            .and(trouble::field(2, Weight::check(w.tare)))
+            .and(trouble::field(6, Weight::check(w.first)))
+            .and(trouble::field(10, Weight::check(w.second)))
     }
 
     fn none() -> Weighing {

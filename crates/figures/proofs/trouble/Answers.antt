@@ -1,5 +1,4 @@
 -- Mark and version, both lists, and nothing behind them.
-use Rattle.fields.specs.Trouble.{checks, first}
 use Rattle.fields.proofs.Refusals.{refuses, passes}
 use Rattle.figures.proofs.Parts.{figure_parts}
 use Rattle.figures.proofs.trouble.Goals as goal
@@ -22,9 +21,8 @@ returns-in_err-trouble-2 c =
     (rw (← c.end-next_at.ensures.end) (refuses _ _ _ c.from_residual-in_err-trouble-2.ensures.1 c.in_err-trouble-2.ensures))))
 
 pub returns : goal.returns
-unfolding checks first
 returns c =
     rw (figure_parts c.args.s.now)
     (passes c.in_ok-opening_trouble.ensures
     (passes c.in_ok-trouble.ensures
-    (rw (← c.end-next_at.ensures.end, ← c.end-end.ensures.end) (passes c.in_ok-trouble-2.ensures c.check.ensures))))
+    (rw (← c.end-next_at.ensures.end, ← c.end-end.ensures.end) (passes c.in_ok-trouble-2.ensures c.row.ensures))))

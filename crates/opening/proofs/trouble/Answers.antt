@@ -1,8 +1,6 @@
 -- Incomplete, or row by row.
-use mathlib.Core.Path.{◌≡◌, refl}
-use Rattle.opening.specs.Opening.{file_header_size, file_rows}
-use Rattle.fields.specs.Trouble.{Clear, checks}
-use Rattle.fields.specs.Refusals.{trouble_of}
+use mathlib.Core.Path.{refl}
+use Rattle.opening.specs.Opening.{file_header_size}
 use Rattle.fields.proofs.FirstTrouble.{from_zero}
 use Rattle.fields.proofs.RecordTrouble.{short_at, whole_at}
 use Rattle.opening.proofs.trouble.Goals as goal
@@ -12,5 +10,4 @@ returns-then-s-lt-SIZE c = short_at c.args.s.now 0 file_header_size _ refl c.if-
 
 pub returns : goal.returns
 returns c =
-    let own : trouble_of c.check-4.result ≡ checks Clear (file_rows c.args.s.now) = cc in
-    whole_at c.args.s.now 0 file_header_size _ refl c.if-s-lt-SIZE.false own (from_zero _)
+    whole_at c.args.s.now 0 file_header_size _ refl c.if-s-lt-SIZE.false c.rows.ensures (from_zero _)

@@ -11,11 +11,11 @@ use Rattle.heads.specs.Rows.{value_rows}
 use Rattle.heads.proofs.Tables.{certificate_parts}
 use Rattle.heads.proofs.certificate.rows.Goals as goal
 
-pub returns-in_err-check : goal.returns-in_err-check
-returns-in_err-check c = rw (certificate_parts c.args.v c.args.c) (refuses _ _ _ c.from_residual.ensures.1 (rw (← c.check.ensures, ← c.field.ensures) c.in_err-check.ensures))
+pub returns-in_err-field : goal.returns-in_err-field
+returns-in_err-field c = rw (certificate_parts c.args.v c.args.c) (refuses _ _ _ c.from_residual.ensures.1 (rw (← c.check.ensures) c.in_err-field.ensures))
 
 pub returns-in_err-rows : goal.returns-in_err-rows
-returns-in_err-rows c = rw (certificate_parts c.args.v c.args.c) (passes (rw (← c.check.ensures, ← c.field.ensures) c.in_ok-check.ensures) (refuses _ _ _ c.from_residual-in_err-rows.ensures.1 c.in_err-rows.ensures))
+returns-in_err-rows c = rw (certificate_parts c.args.v c.args.c) (passes (rw (← c.check.ensures) c.in_ok-field.ensures) (refuses _ _ _ c.from_residual-in_err-rows.ensures.1 c.in_err-rows.ensures))
 
 pub from-requires : goal.from-requires
 from-requires c =
@@ -23,4 +23,4 @@ from-requires c =
     omega (arith, few c.args.v 1, c.letters.ensures)
 
 pub returns : goal.returns
-returns c = rw (certificate_parts c.args.v c.args.c) (passes (rw (← c.check.ensures, ← c.field.ensures) c.in_ok-check.ensures) (passes c.in_ok-rows.ensures (c.from.ensures ∙ ap₂ from c.letters.ensures c.value_rows.ensures)))
+returns c = rw (certificate_parts c.args.v c.args.c) (passes (rw (← c.check.ensures) c.in_ok-field.ensures) (passes c.in_ok-rows.ensures (c.from.ensures ∙ ap₂ from c.letters.ensures c.value_rows.ensures)))

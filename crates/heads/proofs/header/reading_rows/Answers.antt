@@ -1,35 +1,33 @@
--- A row a field: each is the table's, and then its check is; the signed field is read back from its bits.
+-- One row after the other: each is the table's, and then its check is; the signed field is read back from its bits.
 use mathlib.Core.Path.{refl, ◌∙◌, ap}
+use borrow.Author.Rules.{rules}
 use mathlib.Core.List.{[], ◌∷◌}
-use Rattle.fields.specs.Trouble.{Clear, count, field, checks}
+use Rattle.fields.specs.Trouble.{Clear, count, field, checks, first}
+use Rattle.fields.proofs.Refusals.{adds}
 use Rattle.fields.proofs.SignedFields.{read_back}
 use Rattle.readings.specs.Ranges.{static_pressure}
 use Rattle.heads.proofs.header.reading_rows.Goals as goal
 
 pub returns : goal.returns
+unfolding checks first
 returns c =
-    let low = c.check-2.ensures ∙ ap static_pressure (read_back c.struct_told-1.given.1.1.1.1.1.1.0.1 refl) in
-    c.check-17.ensures
-    ∙ (λ i.
-    checks Clear
-    (c.field.ensures i
-    ∷ c.field-2.ensures i
-    ∷ c.field-3.ensures i
-    ∷ c.field-4.ensures i
-    ∷ c.field-5.ensures i
-    ∷ c.field-6.ensures i
-    ∷ c.field-7.ensures i
-    ∷ c.field-8.ensures i
-    ∷ c.field-9.ensures i
-    ∷ c.field-10.ensures i
-    ∷ c.field-11.ensures i
-    ∷ c.field-12.ensures i
-    ∷ c.field-13.ensures i
-    ∷ c.count.ensures i
-    ∷ c.count-2.ensures i
-    ∷ c.count-3.ensures i
-    ∷ c.field-14.ensures i
-    ∷ []))
+    let low = c.check-2.ensures ∙ ap static_pressure (read_back (search rules) refl) in
+    let upto_2 = adds _ _ c.and.ensures c.field.ensures c.field-2.ensures in
+    let upto_3 = adds _ _ c.and-2.ensures upto_2 c.field-3.ensures in
+    let upto_4 = adds _ _ c.and-3.ensures upto_3 c.field-4.ensures in
+    let upto_5 = adds _ _ c.and-4.ensures upto_4 c.field-5.ensures in
+    let upto_6 = adds _ _ c.and-5.ensures upto_5 c.field-6.ensures in
+    let upto_7 = adds _ _ c.and-6.ensures upto_6 c.field-7.ensures in
+    let upto_8 = adds _ _ c.and-7.ensures upto_7 c.field-8.ensures in
+    let upto_9 = adds _ _ c.and-8.ensures upto_8 c.field-9.ensures in
+    let upto_10 = adds _ _ c.and-9.ensures upto_9 c.field-10.ensures in
+    let upto_11 = adds _ _ c.and-10.ensures upto_10 c.field-11.ensures in
+    let upto_12 = adds _ _ c.and-11.ensures upto_11 c.field-12.ensures in
+    let upto_13 = adds _ _ c.and-12.ensures upto_12 c.field-13.ensures in
+    let upto_14 = adds _ _ c.and-13.ensures upto_13 c.count.ensures in
+    let upto_15 = adds _ _ c.and-14.ensures upto_14 c.count-2.ensures in
+    let upto_16 = adds _ _ c.and-15.ensures upto_15 c.count-3.ensures in
+    adds _ _ c.and-16.ensures upto_16 c.field-14.ensures
     ∙ (λ i.
     checks Clear
     (field 25 (c.check.ensures i)
