@@ -112,6 +112,6 @@ is_refused s (Ok f) e same told = absurd same
 is_refused s (Err y) e same told = rw (same, ← told)
 
 -- .. or both lists
-pub is_read : (s : List ℕ) {last next : List Step} {at : ℕ} → Clear ≡ figure_trouble s → last ≡ steps_at s last_at → at ≡ next_at s → next ≡ steps_at s at → ◌≡◌ {A = Supplied} (record { trouble = Clear; figure = record { last = last; next = next } }) (read_figure s)
+pub is_read : (s : List ℕ) {last next : List Step} → Clear ≡ figure_trouble s → last ≡ steps_at s last_at → next ≡ steps_at s (next_at s) → ◌≡◌ {A = Supplied} (record { trouble = Clear; figure = record { last = last; next = next } }) (read_figure s)
 unfolding read_figure
-is_read s clear first there second = rw (← clear, first, second, there)
+is_read s clear first second = rw (← clear, first, second)

@@ -10,9 +10,10 @@ mod lists;
 ghost use Rattle.std.specs.Prelude.{◌≡◌};
 ghost use Rattle.fields.specs.Trouble.{Clear, checks};
 ghost use Rattle.fields.specs.Refusals.{trouble_of};
-ghost use Rattle.figures.specs.Figures.{figure_marked, opening_rows, figure_trouble, read_figure, told_figure};
+ghost use Rattle.figures.specs.Figures.{figure_marked, opening_rows, figure_trouble, last_at, next_at, read_figure, told_figure};
 
 use crate::bytes::{met, number};
+use crate::lists::List;
 use fields::trouble::{self, BadFile};
 use readings::figures::FigureVersion;
 use readings::range::Reading;
@@ -44,15 +45,35 @@ fn opening_trouble(s: &[u8]) -> Result<(), BadFile>
     )
 }
 
+// The list for the distance from the last disturbance.
+fn list_from_last(s: &[u8]) -> List<'_>
+    ensures { (result.bytes.now ≡ s.now) × (result.at ≡ last_at) }
+{
+    List {
+        bytes: s,
+        at: LAST_AT,
+    }
+}
+
+// The list for the distance to the next, which stands behind it.
+fn list_to_next(s: &[u8]) -> List<'_>
+    ensures { (result.bytes.now ≡ s.now) × (result.at ≡ next_at s.now) }
+{
+    List {
+        bytes: s,
+        at: list_from_last(s).end(),
+    }
+}
+
 // The first trouble met in the file.
 fn trouble(s: &[u8]) -> Result<(), BadFile>
     ensures { trouble_of result ≡ figure_trouble s.now }
 {
     opening_trouble(s)?;
-    lists::trouble(s, LAST_AT)?;
-    let next_at = lists::end(s, LAST_AT);
-    lists::trouble(s, next_at)?;
-    let end = lists::end(s, next_at);
+    list_from_last(s).trouble()?;
+    let next = list_to_next(s);
+    next.trouble()?;
+    let end = next.end();
     trouble::row(s.len() <= end, Reason::Figure, end)
 }
 
@@ -62,7 +83,7 @@ pub fn read(s: &[u8]) -> Result<Figure, BadFile>
 {
     trouble(s)?;
     Ok(Figure {
-        last: lists::steps(s, LAST_AT),
-        next: lists::steps(s, lists::end(s, LAST_AT)),
+        last: list_from_last(s).steps(),
+        next: list_to_next(s).steps(),
     })
 }

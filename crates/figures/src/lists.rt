@@ -23,106 +23,110 @@ pub struct Limits {
     pub rectangular: u8,
 }
 
-// Where step i of the list at a place stands.
-fn place(at: usize, i: usize) -> usize
-    requires { (at ≤ 10000) × (i ≤ 255) }
-    ensures { result ≡ step_place at i }
-{
-    at + 1 + STEP_SIZE * i
+// A list of a figure's file, which may be cut off: the file's bytes, and the place of its count.
+#[derive(Clone, Copy)]
+pub struct List<'a> {
+    pub bytes: &'a [u8],
+    pub at: usize,
+    pub ghost near: { at ≤ 10000 },
 }
 
-fn step(s: &[u8], at: usize, i: usize) -> Step
-    requires { (at ≤ 10000) × (i ≤ 255) }
-    ensures { result ≡ step_at s.now at i }
-{
-    let p = place(at, i);
-    Step {
-        least: number(s, p),
-        round: byte(s, p + 2),
-        rectangular: byte(s, p + 3),
+impl List<'_> {
+    // Where step i stands.
+    fn place(self, i: u8) -> usize
+        ensures { result ≡ step_place self.entry.at i }
+    {
+        self.at + 1 + STEP_SIZE * i as usize
     }
-}
 
-// What step i has to keep to, by the step before it: distances rise, and points never do.
-fn limits_of(s: &[u8], at: usize, i: usize) -> Limits
-    requires { (at ≤ 10000) × (i ≤ 255) }
-    ensures { result ≡ limits_at s.now at i }
-{
-    if i == 0 {
-        return Limits {
+    fn step(self, i: u8) -> Step
+        ensures { result ≡ step_at self.entry.bytes.now self.entry.at i }
+    {
+        let p = self.place(i);
+        Step {
+            least: number(self.bytes, p),
+            round: byte(self.bytes, p + 2),
+            rectangular: byte(self.bytes, p + 3),
+        }
+    }
+
+    // What step i has to keep to, by the step before it: distances rise, and points never do.
+    fn limits_of(self, i: u8) -> Limits
+        ensures { result ≡ limits_at self.entry.bytes.now self.entry.at i }
+    {
+        if i == 0 {
+            return Limits {
+                least: 0,
+                round: StepPoints::GREATEST_ROUND,
+                rectangular: StepPoints::GREATEST_RECTANGULAR,
+            };
+        }
+        let before = self.step(i - 1);
+        Limits {
+            least: before.least as u32 + 1,
+            round: before.round,
+            rectangular: before.rectangular,
+        }
+    }
+
+    fn step_trouble(self, i: u8) -> Result<(), BadFile>
+        ensures { trouble_of result ≡ checks Clear (step_rows self.entry.bytes.now self.entry.at i) }
+    {
+        let s = self.bytes;
+        let p = self.place(i);
+        let step = self.step(i);
+        let limits = self.limits_of(i);
+        met(s, p, 2, limits.least <= step.least as u32)?;
+        met(s, p + 2, 1, StepPoints::check(limits.round, step.round))?;
+        met(
+            s,
+            p + 3,
+            1,
+            StepPoints::check(limits.rectangular, step.rectangular),
+        )
+    }
+
+    // The first trouble met in the first n steps.
+    fn steps_trouble(self, n: u8) -> Result<(), BadFile>
+        ensures { trouble_of result ≡ checks Clear (steps_rows self.entry.bytes.now self.entry.at n) }
+    {
+        for i in 0..n {
+            self.step_trouble(i)?;
+        }
+        Ok(())
+    }
+
+    // The first trouble met in the list.
+    pub fn trouble(self) -> Result<(), BadFile>
+        ensures { trouble_of result ≡ checks Clear (list_rows self.entry.bytes.now self.entry.at) }
+    {
+        let count = byte(self.bytes, self.at);
+        met(self.bytes, self.at, 1, StepCount::check(count))?;
+        self.steps_trouble(count)
+    }
+
+    // The place behind the list.
+    pub fn end(self) -> usize
+        ensures end { result ≡ list_end self.entry.bytes.now self.entry.at }
+        ensures near { result ≤ self.entry.at + 1021 }
+    {
+        self.place(byte(self.bytes, self.at))
+    }
+
+    // Its steps.
+    pub fn steps(self) -> [Step; PLACES]
+        requires { byte_at self.bytes.now self.at ≤ greatest_step_count }
+        ensures { result ≡ steps_at self.entry.bytes.now self.entry.at }
+    {
+        let count = byte(self.bytes, self.at);
+        let mut all = [Step {
             least: 0,
-            round: StepPoints::GREATEST_ROUND,
-            rectangular: StepPoints::GREATEST_RECTANGULAR,
-        };
+            round: 0,
+            rectangular: 0,
+        }; PLACES];
+        for i in 0..count {
+            all[i as usize] = self.step(i);
+        }
+        all
     }
-    let before = step(s, at, i - 1);
-    Limits {
-        least: before.least as u32 + 1,
-        round: before.round,
-        rectangular: before.rectangular,
-    }
-}
-
-fn step_trouble(s: &[u8], at: usize, i: usize) -> Result<(), BadFile>
-    requires { (at ≤ 10000) × (i ≤ 255) }
-    ensures { trouble_of result ≡ checks Clear (step_rows s.now at i) }
-{
-    let p = place(at, i);
-    let step = step(s, at, i);
-    let limits = limits_of(s, at, i);
-    met(s, p, 2, limits.least <= step.least as u32)?;
-    met(s, p + 2, 1, StepPoints::check(limits.round, step.round))?;
-    met(
-        s,
-        p + 3,
-        1,
-        StepPoints::check(limits.rectangular, step.rectangular),
-    )
-}
-
-// The first trouble met in the first n steps of the list at a place.
-fn steps_trouble(s: &[u8], at: usize, n: usize) -> Result<(), BadFile>
-    requires { (at ≤ 10000) × (n ≤ 255) }
-    ensures { trouble_of result ≡ checks Clear (steps_rows s.now at n) }
-{
-    for i in 0..n {
-        step_trouble(s, at, i)?;
-    }
-    Ok(())
-}
-
-// The first trouble met in the list at a place.
-pub fn trouble(s: &[u8], at: usize) -> Result<(), BadFile>
-    requires { at ≤ 10000 }
-    ensures { trouble_of result ≡ checks Clear (list_rows s.now at) }
-{
-    let count = byte(s, at);
-    met(s, at, 1, StepCount::check(count))?;
-    steps_trouble(s, at, count as usize)
-}
-
-// The place behind the list at a place.
-pub fn end(s: &[u8], at: usize) -> usize
-    requires { at ≤ 10000 }
-    ensures end { result ≡ list_end s.now at }
-    ensures near { result ≤ at + 1021 }
-{
-    place(at, byte(s, at) as usize)
-}
-
-// The steps of the list at a place.
-pub fn steps(s: &[u8], at: usize) -> [Step; PLACES]
-    requires { (at ≤ 10000) × (byte_at s.now at ≤ greatest_step_count) }
-    ensures { result ≡ steps_at s.now at }
-{
-    let count = byte(s, at) as usize;
-    let mut all = [Step {
-        least: 0,
-        round: 0,
-        rectangular: 0,
-    }; PLACES];
-    for i in 0..count {
-        all[i] = step(s, at, i);
-    }
-    all
 }

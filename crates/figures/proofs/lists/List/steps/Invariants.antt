@@ -5,8 +5,8 @@ use Rattle.arrays.specs.Arrays.{padded}
 use Rattle.readings.specs.Ranges.{greatest_step_count}
 use Rattle.steps.specs.Steps.{no_step}
 use Rattle.figures.specs.Figures.{step_at}
-use Rattle.figures.proofs.lists.steps.Given as goal
+use Rattle.figures.proofs.lists.List.steps.Given as goal
 
 abbrev pub invariant-loop-i : goal.invariant-loop-i
 invariant-loop-i l =
-    (l.i ≤ l.count) × (l.all ≡ padded greatest_step_count no_step (step_at l.s l.at) l.i)
+    (l.i ≤ l.count) × (l.all ≡ padded greatest_step_count no_step (step_at l.self.bytes.now l.self.at) l.i)

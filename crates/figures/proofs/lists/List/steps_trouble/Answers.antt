@@ -4,7 +4,7 @@ use borrow.Author.Rules.{rules}
 use Rattle.fields.proofs.FirstTrouble.{none_clear, ends}
 use Rattle.fields.proofs.Refusals.{stopped, still_clear}
 use Rattle.figures.proofs.Parts.{steps_in_a_row}
-use Rattle.figures.proofs.lists.steps_trouble.Goals as goal
+use Rattle.figures.proofs.lists.List.steps_trouble.Goals as goal
 
 pub loop-i-init : goal.loop-i-init
 loop-i-init c = (search rules, none_clear _)

@@ -1,7 +1,7 @@
 -- The count, and then the steps.
 use Rattle.fields.proofs.Refusals.{refuses, passes}
 use Rattle.figures.proofs.Parts.{list_parts}
-use Rattle.figures.proofs.lists.trouble.Goals as goal
+use Rattle.figures.proofs.lists.List.trouble.Goals as goal
 
 pub returns-in_err-met : goal.returns-in_err-met
 returns-in_err-met c =

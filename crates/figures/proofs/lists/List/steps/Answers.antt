@@ -6,7 +6,7 @@ use Rattle.arrays.proofs.Arrays.{pad_none, pad_more}
 use Rattle.readings.specs.Ranges.{greatest_step_count}
 use Rattle.steps.specs.Steps.{no_step}
 use Rattle.figures.specs.Figures.{steps_at}
-use Rattle.figures.proofs.lists.steps.Goals as goal
+use Rattle.figures.proofs.lists.List.steps.Goals as goal
 
 pub loop-i-init : goal.loop-i-init
 loop-i-init c = (search rules, pad_none greatest_step_count no_step _)
