@@ -11,11 +11,11 @@ ghost use Rattle.reduction.specs.Reducing.{ClearRun};
 ghost use Rattle.explaining.specs.Explaining.{explanation_by, explained_run};
 
 use dates::Days;
-use fields::numbers;
 use findings::{Finding, Sought};
 use grounds::Ground;
 use heads::certificate::Certificates;
 use heads::header::header;
+use identities::Record;
 use job::Job;
 use opening::JobFile;
 use readings::runs::Shape;
@@ -37,7 +37,7 @@ fn explanation_by(basis: Ground, s: &[u8], job: Job, k: usize, rule: u8, place: 
     ensures { result ≡ explanation_by basis (version_of s.now) (certificate_of s.now) (certificate_count_of s.now) (run_of s.now k) rule place }
 {
     let file = JobFile::of(s);
-    let header = header(numbers::tail(s, job.starts[k]), file.version);
+    let header = header(Record::at(file, job.starts[k]));
     let all = Certificates {
         file,
         count: job.certificates,

@@ -8,6 +8,7 @@ ghost use Rattle.heads.specs.Rows.{good_first, good_later, value_rows, certifica
 
 use fields::numbers;
 use fields::trouble::{self, BadFile};
+use identities::Record;
 use opening::JobFile;
 use readings::certificates::{CertificateKind, Coefficient, Factor, NozzleDiameter, Unused};
 use readings::headers::Version;
@@ -18,14 +19,14 @@ use refusals::Reason;
 // Its bytes without the letter.
 const SIZE: usize = 16;
 
-pub fn certificate(t: &[u8], v: Version) -> Certificate
-    requires { certificate_size v ≤ length t.now }
-    ensures { result ≡ certificate v t.now }
+pub fn certificate(t: Record<'_>) -> Certificate
+    requires { certificate_size t.version ≤ length t.bytes.now }
+    ensures { result ≡ certificate t.entry.version t.entry.bytes.now }
 {
-    let rest = identities::behind(t, v, 1);
+    let rest = t.behind(1);
     Certificate {
-        kind: numbers::byte(t, 0),
-        identity: identities::identity(t, v, 1),
+        kind: numbers::byte(t.bytes, 0),
+        identity: t.identity(1),
         day: numbers::u16_at(rest, 8),
         first: numbers::u16_at(rest, 10),
         second: numbers::u16_at(rest, 12),
@@ -46,7 +47,7 @@ pub fn nth(f: JobFile<'_>, k: usize) -> Certificate
     requires { certificate_place f.version k + certificate_size f.version ≤ length f.bytes.now }
     ensures { result ≡ certificate_of f.entry.bytes.now k }
 {
-    certificate(&f.bytes[place(f.version, k)..], f.version)
+    certificate(Record::at(f, place(f.version, k)))
 }
 
 // So many certificates of a job's file, from the first on, all of which lie within it.
@@ -109,12 +110,12 @@ fn rows(v: Version, c: Certificate) -> Result<(), BadFile>
 pub fn trouble(f: JobFile<'_>, at: usize) -> Result<(), BadFile>
     ensures { trouble_of result ≡ certificate_trouble f.entry.bytes.now at }
 {
-    let t = numbers::tail(f.bytes, at);
-    if t.len() < identities::size(f.version, SIZE, 1) {
+    let t = Record::at(f, at);
+    if t.bytes.len() < identities::size(f.version, SIZE, 1) {
         return Err(BadFile {
             why: Reason::Incomplete,
             place: f.bytes.len(),
         });
     }
-    trouble::from(at, rows(f.version, certificate(t, f.version)))
+    trouble::from(at, rows(f.version, certificate(t)))
 }

@@ -4,11 +4,13 @@ ghost use Rattle.std.specs.Prelude.{◌≡◌, ◌≤◌, length};
 ghost use Rattle.fields.specs.Trouble.{Clear, checks};
 ghost use Rattle.fields.specs.Refusals.{trouble_of};
 ghost use Rattle.readings.specs.declared.headers.Version.TheVariants.{One};
+ghost use Rattle.identities.specs.Identities.{behind};
 ghost use Rattle.heads.specs.Values.{run_header_size, site, acetone, counts, header_with, header};
 ghost use Rattle.heads.specs.Rows.{reading_rows, header_rows, header_trouble};
 
 use fields::numbers;
 use fields::trouble::{self, BadFile};
+use identities::Record;
 use opening::JobFile;
 use readings::certificates::Unused;
 use readings::headers::Version;
@@ -31,71 +33,88 @@ pub fn size(v: Version) -> usize
     identities::size(v, SIZE, 3)
 }
 
-fn site(t: &[u8]) -> Site
-    requires { run_header_size One ≤ length t.now }
-    ensures { result ≡ site t.now }
-{
-    Site {
-        shape: numbers::byte(t, 43),
-        first: numbers::u16_at(t, 44),
-        second: numbers::u16_at(t, 46),
-        next: numbers::u16_at(t, 48),
-        last: numbers::u16_at(t, 50),
-    }
+// A run's header behind its identities, where a field has its place of version 1.
+#[derive(Clone, Copy)]
+pub struct Rest<'a> {
+    pub bytes: &'a [u8],
+    pub ghost whole: { run_header_size One ≤ length bytes.now },
 }
 
-fn acetone(t: &[u8]) -> Acetone
-    requires { run_header_size One ≤ length t.now }
-    ensures { result ≡ acetone t.now }
-{
-    Acetone {
-        residue: numbers::u16_at(t, 52),
-        blank: numbers::u16_at(t, 54),
-        rinse: numbers::u16_at(t, 56),
-        density: numbers::u16_at(t, 58),
+impl<'a> Rest<'a> {
+    // The rest of a record that holds a whole header.
+    pub fn of(t: Record<'a>) -> Rest<'a>
+        requires { run_header_size t.version ≤ length t.bytes.now }
+        ensures { result.bytes.now ≡ behind t.entry.version 3 t.entry.bytes.now }
+    {
+        Rest { bytes: t.behind(3) }
     }
-}
 
-pub fn counts(t: &[u8]) -> Counts
-    requires { run_header_size One ≤ length t.now }
-    ensures { result ≡ counts t.now }
-{
-    Counts {
-        points: numbers::byte(t, 60),
-        segments: numbers::byte(t, 61),
-        weighings: numbers::byte(t, 62),
+    fn site(self) -> Site
+        ensures { result ≡ site self.entry.bytes.now }
+    {
+        let t = self.bytes;
+        Site {
+            shape: numbers::byte(t, 43),
+            first: numbers::u16_at(t, 44),
+            second: numbers::u16_at(t, 46),
+            next: numbers::u16_at(t, 48),
+            last: numbers::u16_at(t, 50),
+        }
+    }
+
+    fn acetone(self) -> Acetone
+        ensures { result ≡ acetone self.entry.bytes.now }
+    {
+        let t = self.bytes;
+        Acetone {
+            residue: numbers::u16_at(t, 52),
+            blank: numbers::u16_at(t, 54),
+            rinse: numbers::u16_at(t, 56),
+            density: numbers::u16_at(t, 58),
+        }
+    }
+
+    pub fn counts(self) -> Counts
+        ensures { result ≡ counts self.entry.bytes.now }
+    {
+        let t = self.bytes;
+        Counts {
+            points: numbers::byte(t, 60),
+            segments: numbers::byte(t, 61),
+            weighings: numbers::byte(t, 62),
+        }
     }
 }
 
 // The header, `rest` standing behind its identities.
-fn header_with(t: &[u8], rest: &[u8], v: Version) -> RunHeader
-    requires { (run_header_size v ≤ length t.now) × (run_header_size One ≤ length rest.now) }
-    ensures { result ≡ header_with v t.now rest.now }
+fn header_with(t: Record<'_>, rest: Rest<'_>) -> RunHeader
+    requires { run_header_size t.version ≤ length t.bytes.now }
+    ensures { result ≡ header_with t.entry.version t.entry.bytes.now rest.entry.bytes.now }
 {
     RunHeader {
-        number: numbers::u16_at(t, 0),
-        day: numbers::u16_at(t, 2),
-        meter: identities::identity(t, v, 4),
-        pitot: identities::identity(t, v, 11 + opening::letters(v, 1)),
-        nozzle: identities::identity(t, v, 18 + opening::letters(v, 2)),
-        pb: numbers::u16_at(rest, 25),
-        pg: numbers::i16_at(rest, 27),
-        co2: numbers::u16_at(rest, 29),
-        o2: numbers::u16_at(rest, 31),
-        first: numbers::u32_at(rest, 33),
-        last: numbers::u32_at(rest, 37),
-        water: numbers::u16_at(rest, 41),
-        site: site(rest),
-        acetone: acetone(rest),
-        counts: counts(rest),
+        number: numbers::u16_at(t.bytes, 0),
+        day: numbers::u16_at(t.bytes, 2),
+        meter: t.identity(4),
+        pitot: t.identity(11 + opening::letters(t.version, 1)),
+        nozzle: t.identity(18 + opening::letters(t.version, 2)),
+        pb: numbers::u16_at(rest.bytes, 25),
+        pg: numbers::i16_at(rest.bytes, 27),
+        co2: numbers::u16_at(rest.bytes, 29),
+        o2: numbers::u16_at(rest.bytes, 31),
+        first: numbers::u32_at(rest.bytes, 33),
+        last: numbers::u32_at(rest.bytes, 37),
+        water: numbers::u16_at(rest.bytes, 41),
+        site: rest.site(),
+        acetone: rest.acetone(),
+        counts: rest.counts(),
     }
 }
 
-pub fn header(t: &[u8], v: Version) -> RunHeader
-    requires { run_header_size v ≤ length t.now }
-    ensures { result ≡ header v t.now }
+pub fn header(t: Record<'_>) -> RunHeader
+    requires { run_header_size t.version ≤ length t.bytes.now }
+    ensures { result ≡ header t.entry.version t.entry.bytes.now }
 {
-    header_with(t, identities::behind(t, v, 3), v)
+    header_with(t, Rest::of(t))
 }
 
 fn reading_rows(h: RunHeader, spare: u8) -> Result<(), BadFile>
@@ -133,13 +152,13 @@ fn rows(v: Version, h: RunHeader, spare: u8) -> Result<(), BadFile>
 pub fn trouble(f: JobFile<'_>, at: usize) -> Result<(), BadFile>
     ensures { trouble_of result ≡ header_trouble f.entry.bytes.now at }
 {
-    let t = numbers::tail(f.bytes, at);
-    if t.len() < size(f.version) {
+    let t = Record::at(f, at);
+    if t.bytes.len() < size(f.version) {
         return Err(BadFile {
             why: Reason::Incomplete,
             place: f.bytes.len(),
         });
     }
-    let spare = numbers::byte(identities::behind(t, f.version, 3), 63);
-    trouble::from(at, rows(f.version, header(t, f.version), spare))
+    let spare = numbers::byte(Rest::of(t).bytes, 63);
+    trouble::from(at, rows(f.version, header(t), spare))
 }

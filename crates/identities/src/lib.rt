@@ -4,7 +4,7 @@
 
 #![tactic(auto)]
 
-ghost use Rattle.std.specs.Prelude.{◌≡◌, ◌+◌, ◌^◌, ◌<◌, ◌≤◌, length};
+ghost use Rattle.std.specs.Prelude.{◌≡◌, ◌+◌, ◌^◌, ◌<◌, ◌≤◌, length, drop};
 ghost use Rattle.fields.specs.Trouble.{Clear, checks};
 ghost use Rattle.fields.specs.Refusals.{trouble_of};
 ghost use Rattle.records.specs.InRange.{maker_letters};
@@ -13,35 +13,64 @@ ghost use Rattle.identities.specs.Identities.{letter_at, identity, behind, ident
 
 use fields::numbers;
 use fields::trouble::{self, BadFile};
+use opening::JobFile;
 use readings::certificates::{Letter, RebuildLetter, Serial};
 use readings::headers::Version;
 use readings::range::Reading;
 use records::{Identity, Maker};
 
-// The letter at a place of a record.
-fn letter(t: &[u8], v: Version, at: usize) -> u8
-    requires { at < length t.now }
-    ensures { result ≡ letter_at v t.now at }
-{
-    match v {
-        Version::One => RebuildLetter::NONE,
-        Version::Two => numbers::byte(t, at),
-    }
+// A record of a job's file from its first byte on, and the version by which it is read. Nothing is left past the end of the file.
+#[derive(Clone, Copy)]
+pub struct Record<'a> {
+    pub bytes: &'a [u8],
+    pub version: Version,
 }
 
-// The identity at a place of a record.
-pub fn identity(t: &[u8], v: Version, at: usize) -> Identity
-    requires { at + 8 ≤ length t.now }
-    ensures { result ≡ identity v t.now at }
-{
-    Identity {
-        maker: Maker {
-            first: numbers::byte(t, at),
-            second: numbers::byte(t, at + 1),
-            third: numbers::byte(t, at + 2),
-        },
-        serial: numbers::u32_at(t, at + 3),
-        letter: letter(t, v, at + 7),
+impl<'a> Record<'a> {
+    // The record at a place of a file.
+    pub fn at(f: JobFile<'a>, at: usize) -> Record<'a>
+        ensures { (result.bytes.now ≡ drop at f.entry.bytes.now) × (result.version ≡ f.entry.version) }
+    {
+        Record {
+            bytes: numbers::tail(f.bytes, at),
+            version: f.version,
+        }
+    }
+
+    // The letter at a place of it.
+    fn letter(self, at: usize) -> u8
+        requires { at < length self.bytes.now }
+        ensures { result ≡ letter_at self.entry.version self.entry.bytes.now at }
+    {
+        match self.version {
+            Version::One => RebuildLetter::NONE,
+            Version::Two => numbers::byte(self.bytes, at),
+        }
+    }
+
+    // The identity at a place of it.
+    pub fn identity(self, at: usize) -> Identity
+        requires { at + 8 ≤ length self.bytes.now }
+        ensures { result ≡ identity self.entry.version self.entry.bytes.now at }
+    {
+        let t = self.bytes;
+        Identity {
+            maker: Maker {
+                first: numbers::byte(t, at),
+                second: numbers::byte(t, at + 1),
+                third: numbers::byte(t, at + 2),
+            },
+            serial: numbers::u32_at(t, at + 3),
+            letter: self.letter(at + 7),
+        }
+    }
+
+    // The record without the bytes of as many letters as `n` identities have: a field behind them has its place of version 1 there.
+    pub fn behind(self, n: usize) -> &'a [u8]
+        requires { letters self.version n ≤ length self.bytes.now }
+        ensures { result.now ≡ behind self.entry.version n self.entry.bytes.now }
+    {
+        &self.bytes[opening::letters(self.version, n)..]
     }
 }
 
@@ -51,14 +80,6 @@ pub fn size(v: Version, without: usize, n: usize) -> usize
     ensures { result ≡ without + letters v n }
 {
     without + opening::letters(v, n)
-}
-
-// A record without the bytes of as many letters as `n` identities have: a field behind them has its place of version 1 there.
-pub fn behind(t: &[u8], v: Version, n: usize) -> &[u8]
-    requires { letters v n ≤ length t.now }
-    ensures { result.now ≡ behind v n t.now }
-{
-    &t[opening::letters(v, n)..]
 }
 
 fn maker_letters(m: Maker) -> bool

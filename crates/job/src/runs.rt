@@ -12,7 +12,8 @@ ghost use Rattle.job.specs.Troubles.{good_seconds, parts_trouble, run_trouble, r
 
 use fields::numbers;
 use fields::trouble::BadFile;
-use heads::header;
+use heads::header::{self, Rest};
+use identities::Record;
 use opening::JobFile;
 use parts::part::{self, Part};
 use readings::headers::RunCount;
@@ -25,12 +26,14 @@ fn good_seconds(f: JobFile<'_>, start: usize, n: Counts) -> bool
     requires { segment_place f.version start n n.segments ≤ length f.bytes.now }
     ensures { result ≡ good_seconds f.entry.bytes.now start n }
 {
-    let points = n.points as usize;
-    let segments = n.segments as usize;
     let at = start + header::size(f.version);
-    let by_points = parts::seconds(numbers::tail(f.bytes, at), Point::SIZE, points);
-    let at_segments = at + Point::SIZE * points;
-    let by_segments = parts::seconds(numbers::tail(f.bytes, at_segments), Segment::SIZE, segments);
+    let by_points = parts::seconds(numbers::tail(f.bytes, at), Point::SIZE, n.points);
+    let at_segments = at + Point::SIZE * (n.points as usize);
+    let by_segments = parts::seconds(
+        numbers::tail(f.bytes, at_segments),
+        Segment::SIZE,
+        n.segments,
+    );
     TotalSeconds::check(by_points) && by_segments == by_points
 }
 
@@ -39,15 +42,12 @@ fn parts_trouble(f: JobFile<'_>, start: usize, n: Counts) -> Result<(), BadFile>
     requires { start + run_header_size f.version ≤ length f.bytes.now }
     ensures { trouble_of result ≡ parts_trouble f.entry.bytes.now start n }
 {
-    let points = n.points as usize;
-    let segments = n.segments as usize;
-    let weighings = n.weighings as usize;
     let at_points = start + header::size(f.version);
-    part::troubles::<Point>(f.bytes, at_points, points)?;
-    let at_segments = at_points + Point::SIZE * points;
-    part::troubles::<Segment>(f.bytes, at_segments, segments)?;
-    let at_weighings = at_segments + Segment::SIZE * segments;
-    part::troubles::<Weighing>(f.bytes, at_weighings, weighings)?;
+    part::troubles::<Point>(f.bytes, at_points, n.points)?;
+    let at_segments = at_points + Point::SIZE * (n.points as usize);
+    part::troubles::<Segment>(f.bytes, at_segments, n.segments)?;
+    let at_weighings = at_segments + Segment::SIZE * (n.segments as usize);
+    part::troubles::<Weighing>(f.bytes, at_weighings, n.weighings)?;
     if !good_seconds(f, start, n) {
         return Err(BadFile {
             why: Reason::Seconds,
@@ -63,7 +63,7 @@ fn run_trouble(f: JobFile<'_>, start: usize, lower: u16) -> Result<(), BadFile>
     ensures { trouble_of result ≡ run_trouble f.entry.bytes.now start lower }
 {
     header::trouble(f, start)?;
-    let h = header::header(numbers::tail(f.bytes, start), f.version);
+    let h = header::header(Record::at(f, start));
     if h.number <= lower {
         return Err(BadFile {
             why: Reason::Repeated,
@@ -78,8 +78,7 @@ fn next_start(f: JobFile<'_>, start: usize) -> usize
     requires { start + run_header_size f.version ≤ length f.bytes.now }
     ensures { result ≡ next_start f.entry.bytes.now start }
 {
-    let t = numbers::tail(f.bytes, start);
-    let n = header::counts(identities::behind(t, f.version, 3));
+    let n = Rest::of(Record::at(f, start)).counts();
     let at_segments = start + header::size(f.version) + Point::SIZE * (n.points as usize);
     let at_weighings = at_segments + Segment::SIZE * (n.segments as usize);
     at_weighings + Weighing::SIZE * (n.weighings as usize)

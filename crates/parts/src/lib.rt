@@ -16,17 +16,18 @@ ghost use Rattle.parts.specs.Values.{point_size, run_at, RunWithin};
 use crate::part::Part;
 use fields::numbers;
 use heads::header;
+use identities::Record;
 use opening::JobFile;
 use records::{Point, Run, Segment};
 
 // The seconds of `n` records of one size from the front of `t` on: each of a run's points and segments begins with them.
-pub fn seconds(t: &[u8], size: usize, n: usize) -> u32
-    requires { (2 ≤ size) × (size ≤ point_size) × (n ≤ 255) × (size * n ≤ length t.now) }
+pub fn seconds(t: &[u8], size: usize, n: u8) -> u32
+    requires { (2 ≤ size) × (size ≤ point_size) × (size * n ≤ length t.now) }
     ensures { result ≡ sum_to (λ i. u16_at (drop (size * i) t.now) 0) n }
 {
     let mut total: u32 = 0;
     for i in 0..n {
-        total += numbers::u16_at(t, size * i) as u32;
+        total += numbers::u16_at(t, size * i as usize) as u32;
     }
     total
 }
@@ -36,13 +37,13 @@ pub fn run(f: JobFile<'_>, start: usize) -> Run
     requires { RunWithin f.bytes.now start }
     ensures { result ≡ run_at f.entry.bytes.now start }
 {
-    let t = numbers::tail(f.bytes, start);
-    let header = header::header(t, f.version);
+    let t = Record::at(f, start);
+    let header = header::header(t);
     let counts = header.counts;
     let points = counts.points as usize;
     let segments = counts.segments as usize;
     let weighings = counts.weighings as usize;
-    let at_points = numbers::tail(t, header::size(f.version));
+    let at_points = numbers::tail(t.bytes, header::size(f.version));
     let at_segments = numbers::tail(at_points, Point::SIZE * points);
     let at_weighings = numbers::tail(at_segments, Segment::SIZE * segments);
     Run {

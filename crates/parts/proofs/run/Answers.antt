@@ -16,16 +16,16 @@ use Rattle.parts.proofs.run.Goals.{After-tail-at_points, After-tail-at_segments,
 
 -- the header is the file's, and so are its counts
 header_read : (c : After-tail-at_points) → c.header-header.result ≡ header_at c.args.f.bytes.now c.args.start
-header_read c = c.header-header.ensures ∙ ap₂ header c.args.f.said c.tail-t.ensures
+header_read c = c.header-header.ensures ∙ ap₂ header (c.at-t.ensures.1 ∙ c.args.f.said) c.at-t.ensures.0
 
 counts_read : (c : After-tail-at_points) → c.header-header.result.counts ≡ (header_at c.args.f.bytes.now c.args.start).counts
 counts_read c = λ i. (header_read c i).counts
 
 points_at : (c : After-tail-at_points) → c.tail-at_points.result.now ≡ drop (c.args.start + run_header_size (version_of c.args.f.bytes.now)) c.args.f.bytes.now
 points_at c =
-    let t = c.tail-t in
+    let t = c.at-t in
     let size = c.size.ensures ∙ ap run_header_size c.args.f.said in
-    further c.args.f.bytes.now c.args.start _ (c.tail-at_points.ensures ∙ ap (λ (n : ℕ). drop n t.result.now) size) t.ensures
+    further c.args.f.bytes.now c.args.start _ (c.tail-at_points.ensures ∙ ap (λ (n : ℕ). drop n t.result.bytes.now) size) t.ensures.0
 
 segments_at :
     (c : After-tail-at_segments)

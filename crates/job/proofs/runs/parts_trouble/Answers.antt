@@ -2,7 +2,6 @@
 use Prim.Native.Nat.{ℕ, ◌+◌, ◌*◌, ◌≤◌}
 use mathlib.Core.Path.{◌≡◌, ◌∙◌, sym, ap}
 use mathlib.Core.Bool.{Bool}
-use borrow.Author.Rules.{rules}
 use native.Mathlib.Omega.{arith}
 use lib.Dec.{lit≤}
 use lib.ListN.{length}
@@ -47,7 +46,7 @@ returns-in_err-troubles c =
     refuses _ _ _ c.from_residual.ensures.1 (c.in_err-troubles.ensures ∙ ap (λ (k : ℕ). points_trouble c.args.f.bytes.now (c.args.start + k) c.args.n.points) e)
 
 pub troubles-requires-2 : goal.troubles-requires-2
-troubles-requires-2 c = (points_end (goal.at.troubles-requires-2 c).In_ok-troubles, search rules)
+troubles-requires-2 c = points_end (goal.at.troubles-requires-2 c).In_ok-troubles
 
 pub returns-in_err-troubles-2 : goal.returns-in_err-troubles-2
 unfolding parts_trouble
@@ -60,7 +59,7 @@ returns-in_err-troubles-2 c =
 pub troubles-requires-3 : goal.troubles-requires-3
 troubles-requires-3 c =
     let at = goal.at.troubles-requires-3 c in
-    (segments_end at.In_ok-troubles-2 (points_end at.In_ok-troubles), search rules)
+    segments_end at.In_ok-troubles-2 (points_end at.In_ok-troubles)
 
 pub returns-in_err-troubles-3 : goal.returns-in_err-troubles-3
 unfolding parts_trouble

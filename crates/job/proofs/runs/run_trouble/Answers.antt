@@ -26,12 +26,12 @@ returns-in_err-trouble c = refuses _ _ _ c.from_residual.ensures.1 c.in_err-trou
 
 pub header-h-requires : goal.header-h-requires
 header-h-requires c =
-    enough c.args.f.bytes.now c.args.start _ c.tail.ensures (complete (goal.at.header-h-requires c).In_ok-trouble)
+    rw c.at.ensures.1 (enough c.args.f.bytes.now c.args.start _ c.at.ensures.0 (complete (goal.at.header-h-requires c).In_ok-trouble))
 
 pub returns-then-h-lower : goal.returns-then-h-lower
 unfolding run_trouble
 returns-then-h-lower c =
-    let h = c.header-h.ensures ∙ ap₂ header c.args.f.said c.tail.ensures in
+    let h = c.header-h.ensures ∙ ap₂ header (c.at.ensures.1 ∙ c.args.f.said) c.at.ensures.0 in
     let low = subst (λ (r : RunHeader). r.number ≤ c.args.lower) h c.if-h-lower.true in
     passes c.in_ok-trouble.ensures (sym (first_at _ (rw (le-ltb _ _ low))))
 
@@ -41,7 +41,7 @@ parts_trouble-requires c = complete (goal.at.parts_trouble-requires c).In_ok-tro
 pub returns : goal.returns
 unfolding run_trouble
 returns c =
-    let h = c.header-h.ensures ∙ ap₂ header c.args.f.said c.tail.ensures in
+    let h = c.header-h.ensures ∙ ap₂ header (c.at.ensures.1 ∙ c.args.f.said) c.at.ensures.0 in
     let high = subst (λ (r : RunHeader). c.args.lower < r.number) h c.if-h-lower.false in
     passes c.in_ok-trouble.ensures
     (c.parts_trouble.ensures ∙ ap (λ (r : RunHeader). parts_trouble c.args.f.bytes.now c.args.start r.counts) h ∙ sym (first_clear _ (rw (lt-ltb _ _ high))))
