@@ -42,8 +42,8 @@ pub fn explain(
     ensures { Explains form figure job.now run rule place out.old out.new (answer_told result) }
 {
     let read = job::read(job)?;
-    let k = find_run(job, read, run).ok_or(Reason::UnknownRun)?;
-    let e = explain_run(job, read, figure, k, rule, place).ok_or(Reason::UnknownFinding)?;
+    let k = find_run(read, run).ok_or(Reason::UnknownRun)?;
+    let e = explain_run(read, figure, k, rule, place).ok_or(Reason::UnknownFinding)?;
     put_by_way(form, e, out)
 }
 

@@ -16,7 +16,7 @@ pub fn run_count(job: &[u8]) -> Result<u32, Refusal>
     ensures { answer_told result ≡ count_answer job.now }
 {
     let read = job::read(job)?;
-    Ok(read.runs as u32)
+    Ok(read.job.runs as u32)
 }
 
 // The number of a job's run, by its index from 0 in file order.
@@ -25,8 +25,8 @@ pub fn run_number(job: &[u8], index: u16) -> Result<u32, Refusal>
 {
     let read = job::read(job)?;
     let k = index as usize;
-    if read.runs <= k {
+    if read.job.runs <= k {
         return Err(Reason::UnknownRun.into());
     }
-    Ok(numbers::u16_at(numbers::tail(job, read.starts[k]), 0) as u32)
+    Ok(numbers::u16_at(numbers::tail(job, read.job.starts[k]), 0) as u32)
 }

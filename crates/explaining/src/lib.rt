@@ -7,7 +7,6 @@ ghost use Rattle.std.specs.Prelude.{◌≡◌};
 ghost use Rattle.opening.specs.Opening.{version_of, certificate_count_of};
 ghost use Rattle.heads.specs.Values.{certificate_of};
 ghost use Rattle.job.specs.Places.{run_of};
-ghost use Rattle.reduction.specs.Reducing.{ClearRun};
 ghost use Rattle.explaining.specs.Explaining.{explanation_by, explained_run};
 
 use dates::Days;
@@ -16,8 +15,7 @@ use grounds::Ground;
 use heads::certificate::Certificates;
 use heads::header::header;
 use identities::Record;
-use job::Job;
-use opening::JobFile;
+use job::clear::ClearFile;
 use readings::runs::Shape;
 use reduction::reduce;
 use steps::Figure;
@@ -32,15 +30,21 @@ pub struct Explanation {
 }
 
 // Why run k of a job without trouble has the finding of that rule at that place, by the ground that its rule goes by there.
-fn explanation_by(basis: Ground, s: &[u8], job: Job, k: usize, rule: u8, place: u16) -> Explanation
-    requires { ClearRun s.now job k }
-    ensures { result ≡ explanation_by basis (version_of s.now) (certificate_of s.now) (certificate_count_of s.now) (run_of s.now k) rule place }
+fn explanation_by(
+    basis: Ground,
+    read: ClearFile<'_>,
+    k: usize,
+    rule: u8,
+    place: u16,
+) -> Explanation
+    requires { k < read.job.runs }
+    ensures { result ≡ explanation_by basis (version_of read.entry.file.bytes.now) (certificate_of read.entry.file.bytes.now) (certificate_count_of read.entry.file.bytes.now) (run_of read.entry.file.bytes.now k) rule place }
 {
-    let file = JobFile::of(s);
-    let header = header(Record::at(file, job.starts[k]));
+    let file = read.file;
+    let header = header(Record::at(file, read.job.starts[k]));
     let all = Certificates {
         file,
-        count: job.certificates,
+        count: read.job.certificates,
     };
     Explanation {
         finding: Finding {
@@ -56,15 +60,14 @@ fn explanation_by(basis: Ground, s: &[u8], job: Job, k: usize, rule: u8, place: 
 
 // Why run k of a job without trouble, counted from 0 in file order, has the finding of that rule at that place, by a figure.
 pub fn explain_run(
-    s: &[u8],
-    job: Job,
+    read: ClearFile<'_>,
     figure: Figure,
     k: usize,
     rule: u16,
     place: u16,
 ) -> Option<Explanation>
-    requires { ClearRun s.now job k }
-    ensures { result ≡ explained_run figure s.now k rule place }
+    requires { k < read.job.runs }
+    ensures { result ≡ explained_run figure read.entry.file.bytes.now k rule place }
 {
     if rule < 1 {
         return None;
@@ -73,10 +76,10 @@ pub fn explain_run(
         return None;
     }
     let number = rule as u8;
-    let reduced = reduce(s, job, figure, k, Sought::Why(number, place));
+    let reduced = reduce(read, figure, k, Sought::Why(number, place));
     let ground = reduced.basis;
     if let Ground::Silent = ground {
         return None;
     }
-    Some(explanation_by(ground, s, job, k, number, place))
+    Some(explanation_by(ground, read, k, number, place))
 }

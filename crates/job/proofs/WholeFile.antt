@@ -18,10 +18,10 @@ use Rattle.opening.specs.Opening.{file_header_size, version_of, certificate_coun
 use Rattle.opening.proofs.HowMany.{few}
 use Rattle.heads.specs.Values.{certificate_place, certificate_size}
 use Rattle.heads.proofs.Places.{next_place}
-use Rattle.job.specs.declared.Job.{Job}
+use Rattle.job.specs.declared.clear.ClearFile.{ClearFile}
 use Rattle.entries.specs.Entries.{entry_trouble}
 use Rattle.job.specs.Troubles.{job_trouble}
-use Rattle.job.specs.Reading.{IsRead}
+use Rattle.job.specs.ReadFiles.{IsRead}
 
 -- a header without trouble has no more certificates and runs than there may be
 pub certificate_count_lem : (s : List ℕ) → file_trouble s ≡ Clear → certificate_count_of s ≤ greatest_certificate_count
@@ -44,6 +44,6 @@ unfolding job_trouble
 header_refuses s told = first_at _ told
 
 -- What is read where the first trouble is handed on by a `?`
-pub read_stops : (s : List ℕ) (q : Result Job BadFile) (e : BadFile) → IsErrAnd q (λ y. y ≡ e) → At (reason_number e.why) e.place ≡ job_trouble s → IsRead s q
+pub read_stops : (s : List ℕ) (q : Result ClearFile BadFile) (e : BadFile) → IsErrAnd q (λ y. y ≡ e) → At (reason_number e.why) e.place ≡ job_trouble s → IsRead s q
 read_stops s (Ok j) e same told = absurd same
 read_stops s (Err y) e same told = rw same (sym told)

@@ -2,4 +2,5 @@
 pub mod Places
 pub mod Troubles
 pub mod Reading
+pub mod ReadFiles
 pub mod Worked

@@ -1,9 +1,7 @@
--- The job that is read from a file: how many certificates it holds and where each run starts, or its first trouble.
-use Rattle.std.specs.Prelude.{ℕ, ◌≡◌, List, Result, Ok, Err}
+-- The job in a file: how many certificates it holds and where each run starts.
+use Rattle.std.specs.Prelude.{ℕ, ◌≡◌, List}
 use Rattle.readings.specs.Ranges.{greatest_run_count}
-use Rattle.refusals.specs.Reasons.{reason_number}
-use Rattle.fields.specs.declared.trouble.BadFile.{BadFile}
-use Rattle.fields.specs.Trouble.{Clear, At}
+use Rattle.fields.specs.Trouble.{Clear}
 use Rattle.arrays.specs.Arrays.{padded}
 use Rattle.job.specs.declared.Job.{Job}
 use Rattle.opening.specs.Opening.{certificate_count_of, run_count_of}
@@ -23,8 +21,3 @@ job_in s =
 pub record ClearJob (s : List ℕ) (j : Job) : Type 0 where
   pub is : j ≡ job_in s
   pub clear : job_trouble s ≡ Clear
-
--- what is read of a file: its job where it is in no trouble, and else its first trouble
-abbrev pub IsRead : List ℕ → Result Job BadFile → Type 0
-IsRead s (Ok j) = ClearJob s j
-IsRead s (Err e) = job_trouble s ≡ At (reason_number e.why) e.place

@@ -3,13 +3,15 @@
 
 #![tactic(auto)]
 
+pub mod clear;
 mod runs;
 
 ghost use Rattle.std.specs.Prelude.{◌≡◌};
 ghost use Rattle.fields.specs.Trouble.{Clear};
 ghost use Rattle.opening.specs.Opening.{file_trouble};
-ghost use Rattle.job.specs.Reading.{IsRead};
+ghost use Rattle.job.specs.ReadFiles.{IsRead};
 
+use crate::clear::ClearFile;
 use fields::numbers;
 use fields::trouble::BadFile;
 use heads::certificate;
@@ -26,8 +28,8 @@ pub struct Job {
     pub starts: [usize; RunCount::GREATEST as usize],
 }
 
-// The job in a file, or the first trouble met in it.
-pub fn read(s: &[u8]) -> Result<Job, BadFile>
+// A file with the job in it, or the first trouble met in it.
+pub fn read(s: &[u8]) -> Result<ClearFile<'_>, BadFile>
     ensures { IsRead s.now result }
 {
     opening::trouble(s)?;
@@ -35,18 +37,21 @@ pub fn read(s: &[u8]) -> Result<Job, BadFile>
 }
 
 // The same where the header is known to be in no trouble.
-pub fn read_records(s: &[u8]) -> Result<Job, BadFile>
+pub fn read_records(s: &[u8]) -> Result<ClearFile<'_>, BadFile>
     requires { file_trouble s.now ≡ Clear }
     ensures { IsRead s.now result }
 {
     let certificates = numbers::u16_at(s, opening::CERTIFICATES_AT) as usize;
     let runs = numbers::u16_at(s, opening::RUNS_AT) as usize;
-    let f = JobFile::of(s);
-    entries::troubles(f, certificates)?;
-    let starts = runs::read(f, certificate::place(f.version, certificates), runs)?;
-    Ok(Job {
-        certificates,
-        runs,
-        starts,
+    let file = JobFile::of(s);
+    entries::troubles(file, certificates)?;
+    let starts = runs::read(file, certificate::place(file.version, certificates), runs)?;
+    Ok(ClearFile {
+        file,
+        job: Job {
+            certificates,
+            runs,
+            starts,
+        },
     })
 }

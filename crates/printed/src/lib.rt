@@ -4,12 +4,11 @@
 
 ghost use Rattle.std.specs.Prelude.{◌^◌, ◌<◌, length};
 ghost use Rattle.figures.specs.Figures.{read_figure};
-ghost use Rattle.job.specs.Reading.{ClearJob};
 ghost use Rattle.output.specs.Answers.{answer_told};
 ghost use Rattle.printing.specs.Jobs.{job_text};
 ghost use Rattle.printed.specs.Printing.{HandsOver, Prints, PrintsBy};
 
-use job::Job;
+use job::clear::ClearFile;
 use output::Refusal;
 use printing::jobs::{ROOM, put_runs};
 use refusals::Reason;
@@ -29,12 +28,11 @@ pub fn hand_over(text: &[u8], out: &mut [u8]) -> Result<u32, Refusal>
 }
 
 // The text of a job without trouble, by way of a buffer with room for any.
-fn put_by_way(figure: Figure, s: &[u8], job: Job, out: &mut [u8]) -> Result<u32, Refusal>
-    requires { ClearJob s.now job }
-    ensures { HandsOver (job_text figure s.now) out.old out.new (answer_told result) }
+fn put_by_way(figure: Figure, read: ClearFile<'_>, out: &mut [u8]) -> Result<u32, Refusal>
+    ensures { HandsOver (job_text figure read.entry.file.bytes.now) out.old out.new (answer_told result) }
 {
     let mut way = [0u8; ROOM];
-    let end = put_runs(figure, s, job, &mut way);
+    let end = put_runs(figure, read, &mut way);
     hand_over(&way[..end], out)
 }
 
@@ -44,9 +42,9 @@ pub fn sheet_text(figure: Figure, s: &[u8], out: &mut [u8]) -> Result<u32, Refus
 {
     let read = job::read(s)?;
     if out.len() < ROOM {
-        return put_by_way(figure, s, read, out);
+        return put_by_way(figure, read, out);
     }
-    Ok(put_runs(figure, s, read, out) as u32)
+    Ok(put_runs(figure, read, out) as u32)
 }
 
 // The same by the figure in a file, which is judged before the job is read.

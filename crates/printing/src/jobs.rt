@@ -3,13 +3,12 @@
 ghost use Rattle.std.specs.Prelude.{◌≤◌, length};
 ghost use Rattle.refusals.specs.Reasons.{reason_number};
 ghost use Rattle.characters.specs.Writing.{Room, Wrote, WroteFront};
-ghost use Rattle.job.specs.Reading.{ClearJob};
 ghost use Rattle.printing.specs.Jobs.{refusal_text, runs_text, job_text};
 
 use characters::Writer;
 use fields::trouble::BadFile;
 use findings::Sought;
-use job::Job;
+use job::clear::ClearFile;
 use reduction::reduce;
 use steps::Figure;
 use text::runs::put_run;
@@ -30,14 +29,13 @@ fn put_refusal(to: &mut Writer<'_>, e: BadFile)
 }
 
 // The runs of a job without trouble, by a figure, from the front of a buffer: how many characters they are.
-pub fn put_runs(figure: Figure, s: &[u8], job: Job, out: &mut [u8]) -> usize
-    requires clear { ClearJob s.now job }
-    requires room { 27088 ≤ length out.old }
-    ensures { WroteFront out.old (runs_text figure s.now job.runs) out.new result }
+pub fn put_runs(figure: Figure, read: ClearFile<'_>, out: &mut [u8]) -> usize
+    requires { 27088 ≤ length out.old }
+    ensures { WroteFront out.old (runs_text figure read.entry.file.bytes.now read.entry.job.runs) out.new result }
 {
     let mut to = Writer { out, at: 0 };
-    for k in 0..job.runs {
-        put_run(&mut to, reduce(s, job, figure, k, Sought::All));
+    for k in 0..read.job.runs {
+        put_run(&mut to, reduce(read, figure, k, Sought::All));
     }
     to.at
 }
@@ -48,7 +46,7 @@ pub fn put_job(figure: Figure, s: &[u8], out: &mut [u8]) -> usize
     ensures { WroteFront out.old (job_text figure s.now) out.new result }
 {
     match job::read(s) {
-        Ok(job) => put_runs(figure, s, job, out),
+        Ok(read) => put_runs(figure, read, out),
         Err(e) => {
             let mut to = Writer { out, at: 0 };
             put_refusal(&mut to, e);

@@ -12,7 +12,7 @@ use Rattle.job.specs.Places.{run_of}
 use Rattle.job.specs.Troubles.{job_trouble}
 use Rattle.job.specs.Reading.{ClearJob}
 use Rattle.job.proofs.ClearJobs.{clear_run, clear_certificate, certificates_within}
-use Rattle.job.proofs.ReadJobs.{count_of_certificates, start_of}
+use Rattle.job.proofs.ReadJobs.{count_of_runs, count_of_certificates, start_of}
 use Rattle.steps.specs.declared.Figure.{Figure}
 use Rattle.findings.specs.Listing.{most_findings, listed}
 use Rattle.findings.proofs.Most.{at_most_for}
@@ -25,6 +25,10 @@ workable s j ok k inside =
       within = certificates_within s ok.clear;
       reducible = record { run = clear_run s ok.clear k inside; certificates = record { each = clear_certificate s ok.clear } };
     })
+
+-- one of the runs that were counted is the job's
+pub is_clear : {s : List ℕ} {j : Job} {k : ℕ} → ClearJob s j → k < j.runs → ClearRun s j k
+is_clear {s} {j} ok inside = record { job = ok; inside = rw (count_of_runs s j ok) at inside }
 
 -- a run read at its place is the job's, and can be reduced
 pub this_run : {s : List ℕ} {j : Job} {k : ℕ} {r : Run} → ClearRun s j k → r ≡ run_at s (get_or j.starts k 0) → r ≡ run_of s k

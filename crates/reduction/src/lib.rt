@@ -3,21 +3,19 @@
 
 #![tactic(auto)]
 
-ghost use Rattle.std.specs.Prelude.{◌≡◌};
+ghost use Rattle.std.specs.Prelude.{◌≡◌, ◌<◌};
 ghost use Rattle.heads.specs.Values.{certificate_of};
 ghost use Rattle.choosing.specs.Choosing.{chosen_for};
 ghost use Rattle.findings.specs.Seeking.{Seekable};
 ghost use Rattle.job.specs.Places.{run_of};
-ghost use Rattle.job.specs.Reading.{ClearJob};
-ghost use Rattle.reduction.specs.Reducing.{Reducible, ClearRun, judged, run_named, judged_run};
+ghost use Rattle.reduction.specs.Reducing.{Reducible, judged, run_named, judged_run};
 
 use fields::numbers;
 use findings::{Findings, Sought};
 use grounds::Ground;
 use heads::certificate::Certificates;
-use job::Job;
+use job::clear::ClearFile;
 use lines::{Sheet, sheets};
-use opening::JobFile;
 use records::Run;
 use steps::Figure;
 
@@ -57,28 +55,27 @@ pub fn work(all: Certificates<'_>, figure: Figure, run: Run, sought: Sought) -> 
 }
 
 // Run k of a job without trouble, counted from 0 in file order, by a figure, and what is sought of its findings.
-pub fn reduce(s: &[u8], job: Job, figure: Figure, k: usize, sought: Sought) -> Reduced
-    requires clear { ClearRun s.now job k }
+pub fn reduce(read: ClearFile<'_>, figure: Figure, k: usize, sought: Sought) -> Reduced
+    requires inside { k < read.job.runs }
     requires seekable { Seekable sought }
-    ensures { result ≡ judged_run sought figure s.now k }
+    ensures { result ≡ judged_run sought figure read.entry.file.bytes.now k }
 {
-    let file = JobFile::of(s);
-    let run = parts::run(file, job.starts[k]);
+    let run = parts::run(read.file, read.job.starts[k]);
     let all = Certificates {
-        file,
-        count: job.certificates,
+        file: read.file,
+        count: read.job.certificates,
     };
     work(all, figure, run, sought)
 }
 
 // The run of that number in a job without trouble. Numbers rise, so there is at most one.
-pub fn find_run(s: &[u8], job: Job, number: u16) -> Option<usize>
-    requires { ClearJob s.now job }
-    ensures { result ≡ run_named (run_of s.now) number job.runs }
+pub fn find_run(read: ClearFile<'_>, number: u16) -> Option<usize>
+    ensures { result ≡ run_named (run_of read.entry.file.bytes.now) number read.entry.job.runs }
 {
+    let job = read.job;
     let mut found = None;
     for k in 0..job.runs {
-        if numbers::u16_at(numbers::tail(s, job.starts[k]), 0) == number {
+        if numbers::u16_at(numbers::tail(read.file.bytes, job.starts[k]), 0) == number {
             found = Some(k);
         }
     }

@@ -30,9 +30,9 @@ fn reduce_by(
     ensures { Answers figure job.now run lines.old findings.old lines.new findings.new (answer_told result) }
 {
     let read = job::read_records(job)?;
-    let k = find_run(job, read, run).ok_or(Reason::UnknownRun)?;
+    let k = find_run(read, run).ok_or(Reason::UnknownRun)?;
     hand_over(
-        reduction::reduce(job, read, figure, k, Sought::All),
+        reduction::reduce(read, figure, k, Sought::All),
         lines,
         findings,
     )

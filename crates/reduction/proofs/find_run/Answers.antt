@@ -14,18 +14,18 @@ pub loop-k-init : goal.loop-k-init
 loop-k-init c = (omega arith, sought_none _ _)
 
 pub offset_bounds-job-k : goal.offset_bounds-job-k
-offset_bounds-job-k c = omega (arith, c.loop-k-test.true, few_runs _ _ c.requires)
+offset_bounds-job-k c = omega (arith, c.loop-k-test.true, few_runs _ _ c.args.read.clear)
 
 pub bounds-job-k : goal.bounds-job-k
-bounds-job-k c = omega (arith, c.loop-k-test.true, few_runs _ _ c.requires)
+bounds-job-k c = omega (arith, c.loop-k-test.true, few_runs _ _ c.args.read.clear)
 
 pub u16_at-requires : goal.u16_at-requires
-u16_at-requires c = number_left _ _ c.requires _ c.loop-k-test.true c.tail.ensures
+u16_at-requires c = number_left _ _ c.args.read.clear _ c.loop-k-test.true c.tail.ensures
 
 pub loop-k-preserved : goal.loop-k-preserved
 loop-k-preserved c =
     let inside = c.loop-k-test.true in
-    let place = start_of _ _ c.requires _ (rw (count_of_runs _ _ c.requires) at inside) in (
+    let place = start_of _ _ c.args.read.clear _ (rw (count_of_runs _ _ c.args.read.clear) at inside) in (
       omega (arith, inside),
       sought_more _ _ _ _ c.loop-k.invariant.1 place (c.u16_at.ensures ∙ ap (λ t. u16_at t 0) c.tail.ensures)
           (elim c.if-u16_at-number.branch [
@@ -36,5 +36,5 @@ loop-k-preserved c =
 
 pub returns : goal.returns
 returns c =
-    let whole : c.loop-k.k ≡ c.args.job.runs = le_antisymm c.loop-k.invariant.0 c.loop-k-test.false in
+    let whole : c.loop-k.k ≡ c.args.read.job.runs = le_antisymm c.loop-k.invariant.0 c.loop-k-test.false in
     c.loop-k.invariant.1.is ∙ ap (run_named _ _) whole

@@ -5,4 +5,4 @@ use Rattle.reduction.proofs.find_run.Given as goal
 
 abbrev pub invariant-loop-k : goal.invariant-loop-k
 invariant-loop-k l =
-    (l.k ≤ l.job.runs) × Sought l.s l.number l.found l.k
+    (l.k ≤ l.job.runs) × Sought l.read.file.bytes.now l.number l.found l.k

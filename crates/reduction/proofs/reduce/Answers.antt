@@ -2,8 +2,8 @@
 use native.Mathlib.Omega.{arith}
 use mathlib.Core.Path.{◌∙◌, ◌≡◌}
 use Rattle.reduction.specs.Reducing.{judged, judged_run, chosen_in, ClearRun}
-use Rattle.job.proofs.ReadJobs.{few_runs, count_of_runs, count_of_certificates, lies_within}
-use Rattle.reduction.proofs.ClearJobs.{workable, this_run, ready}
+use Rattle.job.proofs.ReadJobs.{few_runs, count_of_certificates, lies_within}
+use Rattle.reduction.proofs.ClearJobs.{is_clear, workable, this_run, ready}
 use Prim.Native.Nat.{ℕ}
 use mathlib.Core.List.{List}
 use lib.ListN.{get_or}
@@ -24,38 +24,29 @@ unfolding judged_run chosen_in
 is_judged_run sought fig {s} {v} {j} ev ok e ed =
     ed ∙ rw (ev, this_run ok e, count_of_certificates s j ok.job)
 
-pub of-file-requires : goal.of-file-requires
-of-file-requires c =
-    let ok = c.requires.clear in
-    omega (arith, (workable _ _ ok.job _ ok.inside).within)
+pub offset_bounds-read-k : goal.offset_bounds-read-k
+offset_bounds-read-k c = omega (arith, few_runs _ _ c.args.read.clear, c.requires.inside)
 
-pub offset_bounds-job-k : goal.offset_bounds-job-k
-offset_bounds-job-k c =
-    let ok = c.requires.clear in
-    omega (arith, few_runs _ _ ok.job, count_of_runs _ _ ok.job, ok.inside)
-
-pub bounds-job-k : goal.bounds-job-k
-bounds-job-k c =
-    let ok = c.requires.clear in
-    omega (arith, few_runs _ _ ok.job, count_of_runs _ _ ok.job, ok.inside)
+pub bounds-read-k : goal.bounds-read-k
+bounds-read-k c = omega (arith, few_runs _ _ c.args.read.clear, c.requires.inside)
 
 pub run-run-requires : goal.run-run-requires
 run-run-requires c =
-    let ok = c.requires.clear in
-    rw c.of-file.ensures (lies_within _ _ ok.job _ ok.inside)
+    let ok = is_clear c.args.read.clear c.requires.inside in
+    lies_within _ _ ok.job _ ok.inside
 
 pub invariant_of-all : goal.invariant_of-all
 invariant_of-all c =
-    let ok = c.requires.clear in
-    record { inside = rw (c.of-file.result.said, c.of-file.ensures) (workable _ _ ok.job _ ok.inside).within }
+    let ok = is_clear c.args.read.clear c.requires.inside in
+    record { inside = rw c.args.read.file.said (workable _ _ ok.job _ ok.inside).within }
 
 pub work-requires : goal.work-requires
 work-requires c =
     record {
-      reducible = rw c.of-file.ensures (ready c.requires.clear (rw c.of-file.ensures at c.run-run.ensures)).reducible;
+      reducible = (ready (is_clear c.args.read.clear c.requires.inside) c.run-run.ensures).reducible;
       seekable = c.requires.seekable;
     }
 
 pub returns : goal.returns
 returns c =
-    is_judged_run c.args.sought _ (rw c.of-file.ensures at c.of-file.result.said) c.requires.clear (rw c.of-file.ensures at c.run-run.ensures) (rw c.of-file.ensures at c.work.ensures)
+    is_judged_run c.args.sought _ c.args.read.file.said (is_clear c.args.read.clear c.requires.inside) c.run-run.ensures c.work.ensures
