@@ -103,11 +103,11 @@ module _ (fig : Figure) (s : List ℕ) (k rule place : ℕ) where
         rw (broke, ee, kept, broke)
 
 -- the header that is read at a run's place is the run's
-header_is : {s t : List ℕ} {v : Version} {j : Job} {k : ℕ} {h : RunHeader} → ClearRun s j k → v ≡ version_of s → t ≡ drop (get_or j.starts k 0) s → h ≡ header v t → h ≡ (run_of s k).header
+header_is : {s t : List ℕ} {v w : Version} {j : Job} {k : ℕ} {h : RunHeader} → ClearRun s j k → v ≡ version_of s → w ≡ v → t ≡ drop (get_or j.starts k 0) s → h ≡ header w t → h ≡ (run_of s k).header
 unfolding run_at
-header_is {s} {j = j} {k = k} ok ev et eh = eh ∙ rw (ev, et, start_of s j ok.job k ok.inside)
+header_is {s} {j = j} {k = k} ok ev ew et eh = eh ∙ rw (ew, ev, et, start_of s j ok.job k ok.inside)
 
 -- A finding explained by a ground, from what is read and chosen
-pub put_together : {s t : List ℕ} {v : Version} {j : Job} {k : ℕ} {h : RunHeader} {class : Class} {days : Days} (g : Ground) (rule place : ℕ) → ClearRun s j k → v ≡ version_of s → t ≡ drop (get_or j.starts k 0) s → h ≡ header v t → class ≡ class_of v rule → days ≡ days_of v (certificate_of s) j.certificates h rule → ◌≡◌ {A = Explanation} (record { finding = record { rule = rule; class = class; place = place }; round = is_round h.site; basis = g; days = days }) (explanation_by g (version_of s) (certificate_of s) (certificate_count_of s) (run_of s k) rule place)
-put_together {s} {j = j} g rule place ok ev et eh ec ed =
-    rw (ed, ec, header_is ok ev et eh, ev, count_of_certificates s j ok.job)
+pub put_together : {s t : List ℕ} {v w : Version} {j : Job} {k : ℕ} {h : RunHeader} {class : Class} {days : Days} (g : Ground) (rule place : ℕ) → ClearRun s j k → v ≡ version_of s → w ≡ v → t ≡ drop (get_or j.starts k 0) s → h ≡ header w t → class ≡ class_of v rule → days ≡ days_of v (certificate_of s) j.certificates h rule → ◌≡◌ {A = Explanation} (record { finding = record { rule = rule; class = class; place = place }; round = is_round h.site; basis = g; days = days }) (explanation_by g (version_of s) (certificate_of s) (certificate_count_of s) (run_of s k) rule place)
+put_together {s} {j = j} g rule place ok ev ew et eh ec ed =
+    rw (ed, ec, header_is ok ev ew et eh, ev, count_of_certificates s j ok.job)

@@ -3,7 +3,7 @@
 
 #![tactic(auto)]
 
-ghost use Rattle.std.specs.Prelude.{◌≡◌};
+ghost use Rattle.std.specs.Prelude.{◌≡◌, ◌<◌};
 ghost use Rattle.opening.specs.Opening.{version_of, certificate_count_of};
 ghost use Rattle.heads.specs.Values.{certificate_of};
 ghost use Rattle.job.specs.Places.{run_of};
@@ -30,13 +30,7 @@ pub struct Explanation {
 }
 
 // Why run k of a job without trouble has the finding of that rule at that place, by the ground that its rule goes by there.
-fn explanation_by(
-    basis: Ground,
-    read: ClearFile<'_>,
-    k: usize,
-    rule: u8,
-    place: u16,
-) -> Explanation
+fn explanation_by(basis: Ground, read: ClearFile<'_>, k: usize, rule: u8, place: u16) -> Explanation
     requires { k < read.job.runs }
     ensures { result ≡ explanation_by basis (version_of read.entry.file.bytes.now) (certificate_of read.entry.file.bytes.now) (certificate_count_of read.entry.file.bytes.now) (run_of read.entry.file.bytes.now k) rule place }
 {

@@ -1,7 +1,6 @@
 -- Each way through the call is what came of its case.
-use Rattle.std.proofs.Common.{◌≡◌, Some, ◌∙◌, sym}
-use Rattle.job.proofs.ReadJobs.{count_of_runs, place_fits}
-use Rattle.reduction.specs.Reducing.{ClearRun}
+use Rattle.std.proofs.Common.{◌≡◌, ◌<◌, Some, ◌∙◌, sym}
+use Rattle.job.proofs.ReadJobs.{place_fits}
 use Rattle.reduction.proofs.Naming.{found_inside}
 use Rattle.output.proofs.Refusals.{file_told, call_told, none_there, some_there}
 use Rattle.asking.proofs.Outcomes.{refused_by_reader, no_run, no_finding_lem, one_finding}
@@ -12,10 +11,8 @@ use Rattle.asking.proofs.explain.Goals.{In_ok-k}
 named : (c : In_ok-k) → c.find_run.result ≡ Some c.in_ok-k.k
 named c = some_there c.find_run.result _ c.in_ok-k.ensures.value
 
-found : (c : In_ok-k) → ClearRun c.args.job.now c.in_ok-read.read c.in_ok-k.k
-found c =
-    let job = c.in_ok-read.ensures in
-    record { job = job; inside = rw (count_of_runs _ _ job) at (found_inside _ _ _ (sym c.find_run.ensures ∙ named c)) }
+found : (c : In_ok-k) → c.in_ok-k.k < c.in_ok-read.read.job.runs
+found c = found_inside _ _ _ (sym c.find_run.ensures ∙ named c)
 
 pub returns-in_err-read : goal.returns-in_err-read
 returns-in_err-read c =
@@ -26,7 +23,7 @@ pub returns-in_err-k : goal.returns-in_err-k
 returns-in_err-k c =
     let (none, why) = none_there c.find_run.result _ c.in_err-k.ensures.value in
     rw (call_told _ _ c.from_residual-in_err-k.ensures.1, why)
-    (no_run _ _ _ _ _ _ _ _ c.in_ok-read.ensures c.find_run.ensures none)
+    (no_run _ _ _ _ _ _ _ _ c.in_ok-read.ensures.1 (rw c.in_ok-read.ensures.0 at c.find_run.ensures) none)
 
 pub explain_run-requires : goal.explain_run-requires
 explain_run-requires c = found (goal.at.explain_run-requires c).In_ok-k
@@ -35,8 +32,16 @@ pub returns-in_err-e : goal.returns-in_err-e
 returns-in_err-e c =
     let (none, why) = none_there c.explain_run.result _ c.in_err-e.ensures.value in
     rw (call_told _ _ c.from_residual-in_err-e.ensures.1, why)
-    (no_finding_lem _ _ _ _ _ _ _ _ c.in_ok-read.ensures c.find_run.ensures (named (goal.at.returns-in_err-e c).In_ok-k) c.explain_run.ensures none)
+    (no_finding_lem _ _ _ _ _ _ _ _ c.in_ok-read.ensures.1
+    (rw c.in_ok-read.ensures.0 at c.find_run.ensures)
+    (named (goal.at.returns-in_err-e c).In_ok-k)
+    (rw c.in_ok-read.ensures.0 at c.explain_run.ensures)
+    none)
 
 pub returns : goal.returns
 returns c =
-    one_finding _ _ _ _ _ _ _ _ c.in_ok-read.ensures c.find_run.ensures (named (goal.at.returns c).In_ok-k) c.explain_run.ensures (some_there c.explain_run.result _ c.in_ok-e.ensures.value) c.put_by_way.ensures
+    one_finding _ _ _ _ _ _ _ _ c.in_ok-read.ensures.1
+    (rw c.in_ok-read.ensures.0 at c.find_run.ensures)
+    (named (goal.at.returns c).In_ok-k)
+    (rw c.in_ok-read.ensures.0 at c.explain_run.ensures)
+    (some_there c.explain_run.result _ c.in_ok-e.ensures.value) c.put_by_way.ensures

@@ -10,7 +10,7 @@ returns-in_err-read c =
     file_told _ _ (place_fits _ c.in_err-read.ensures) c.from_residual.ensures.1 ∙ count_refused _ c.in_err-read.ensures
 
 pub overflow_cast-result : goal.overflow_cast-result
-overflow_cast-result c = omega (arith, few_runs _ _ c.in_ok-read.ensures)
+overflow_cast-result c = omega (arith, few_runs _ _ c.in_ok-read.ensures.1)
 
 pub returns : goal.returns
-returns c = count_done _ _ c.in_ok-read.ensures
+returns c = count_done _ _ c.in_ok-read.ensures.1

@@ -10,13 +10,13 @@ returns-in_err-read c =
     file_told _ _ (place_fits _ c.in_err-read.ensures) c.from_residual.ensures.1 ∙ number_refused _ _ c.in_err-read.ensures
 
 pub returns-then-read-k : goal.returns-then-read-k
-returns-then-read-k c = rw c.into.ensures (number_past _ _ _ c.in_ok-read.ensures (omega (arith, c.if-read-k.true)))
+returns-then-read-k c = rw c.into.ensures (number_past _ _ _ c.in_ok-read.ensures.1 (omega (arith, c.if-read-k.true)))
 
 pub bounds-read-k : goal.bounds-read-k
-bounds-read-k c = omega (arith, few_runs _ _ c.in_ok-read.ensures, c.if-read-k.false)
+bounds-read-k c = omega (arith, few_runs _ _ c.in_ok-read.ensures.1, c.if-read-k.false)
 
 pub u16_at-requires : goal.u16_at-requires
-u16_at-requires c = number_left _ _ c.in_ok-read.ensures _ c.if-read-k.false c.tail.ensures
+u16_at-requires c = number_left _ _ c.in_ok-read.ensures.1 _ c.if-read-k.false c.tail.ensures
 
 pub returns : goal.returns
-returns c = number_done _ _ _ c.in_ok-read.ensures c.if-read-k.false c.tail.ensures c.u16_at.ensures
+returns c = number_done _ _ _ c.in_ok-read.ensures.1 c.if-read-k.false c.tail.ensures c.u16_at.ensures

@@ -11,7 +11,7 @@ returns-then-rule c = beyond _ _ _ _ _ c.if-rule.true
 
 pub reduce-reduced-requires : goal.reduce-reduced-requires
 reduce-reduced-requires c =
-    record { clear = c.requires; seekable = record { some = omega (arith, c.if-rule-lt1.false); last = omega (arith, c.if-rule.false) } }
+    record { inside = c.requires; seekable = record { some = omega (arith, c.if-rule-lt1.false); last = omega (arith, c.if-rule.false) } }
 
 pub returns-in-Silent : goal.returns-in-Silent
 returns-in-Silent c = no_finding_lem _ _ _ _ _ c.reduce-reduced.ensures c.in-Silent.is

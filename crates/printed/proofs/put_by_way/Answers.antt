@@ -10,14 +10,14 @@ use Rattle.printed.proofs.put_by_way.Goals as goal
 use Rattle.printed.proofs.put_by_way.Goals.{After-put_runs-end}
 
 -- the text of the job stands beside the output, and is no longer than the room there
-text : (c : After-put_runs-end) → take c.put_runs-end.result c.put_runs-end.new.out ≡ job_text c.args.figure c.args.s.now
-text c = taken_front c.put_runs-end.ensures ∙ text_of_runs _ _ _ c.requires
+text : (c : After-put_runs-end) → take c.put_runs-end.result c.put_runs-end.new.out ≡ job_text c.args.figure c.args.read.file.bytes.now
+text c = taken_front c.put_runs-end.ensures ∙ text_of_runs _ _ _ c.args.read.clear
 
 inside : (c : After-put_runs-end) → c.put_runs-end.result ≤ length c.put_runs-end.new.out
 inside c =
     let size = length-replicate {A = ℕ} 27088 0 in
-    let short = text_most c.args.figure c.args.s.now in
-    within_front c.put_runs-end.ensures (rw (text_of_runs c.args.figure _ _ c.requires) (omega (arith, size, short)))
+    let short = text_most c.args.figure c.args.read.file.bytes.now in
+    within_front c.put_runs-end.ensures (rw (text_of_runs c.args.figure _ _ c.args.read.clear) (omega (arith, size, short)))
 
 pub slice_bounds-way-end : goal.slice_bounds-way-end
 slice_bounds-way-end c = inside (goal.at.slice_bounds-way-end c).After-put_runs-end
@@ -29,7 +29,7 @@ slice_bounds-hand_over-end c =
 pub hand_over-requires : goal.hand_over-requires
 hand_over-requires c =
     let place = (goal.at.hand_over-requires c).After-put_runs-end in
-    rw (text place) (omega (arith, text_most c.args.figure c.args.s.now))
+    rw (text place) (omega (arith, text_most c.args.figure c.args.read.file.bytes.now))
 
 pub returns : goal.returns
 returns c = rw (text (goal.at.returns c).After-put_runs-end) at c.hand_over.ensures

@@ -12,7 +12,7 @@ use Rattle.printed.proofs.sheet_text.Goals.{After-put_runs}
 
 -- what was written is the text of the job
 wrote : (c : After-put_runs) → WroteFront c.args.out.now (job_text c.args.figure c.args.s.now) c.put_runs.new.out c.put_runs.result
-wrote c = rw (text_of_runs _ _ _ c.in_ok-read.ensures) at c.put_runs.ensures
+wrote c = rw (c.in_ok-read.ensures.0, text_of_runs _ _ _ c.in_ok-read.ensures.1) at c.put_runs.ensures
 
 pub returns-in_err-read : goal.returns-in_err-read
 returns-in_err-read c =
@@ -20,14 +20,14 @@ returns-in_err-read c =
     rw (file_told _ _ (place_fits _ met) c.from_residual.ensures.1) (refused_by_reader _ _ _ met)
 
 pub returns-then-out-lt-ROOM : goal.returns-then-out-lt-ROOM
-returns-then-out-lt-ROOM c = of_clear _ _ _ c.in_ok-read.ensures c.put_by_way.ensures
+returns-then-out-lt-ROOM c = of_clear _ _ _ c.in_ok-read.ensures.1 (rw c.in_ok-read.ensures.0 at c.put_by_way.ensures)
 
 pub put_runs-requires : goal.put_runs-requires
-put_runs-requires c = record { clear = c.in_ok-read.ensures; room = omega (arith, c.if-out-lt-ROOM.false) }
+put_runs-requires c = omega (arith, c.if-out-lt-ROOM.false)
 
 pub overflow_cast-result : goal.overflow_cast-result
 overflow_cast-result c = omega (arith, end_fits _ c.args.s.now (wrote (goal.at.overflow_cast-result c).After-put_runs).long)
 
 pub returns : goal.returns
 returns c =
-    of_clear _ _ _ c.in_ok-read.ensures (handed_over _ _ (omega (arith, text_most c.args.figure c.args.s.now, c.if-out-lt-ROOM.false)) (wrote (goal.at.returns c).After-put_runs))
+    of_clear _ _ _ c.in_ok-read.ensures.1 (handed_over _ _ (omega (arith, text_most c.args.figure c.args.s.now, c.if-out-lt-ROOM.false)) (wrote (goal.at.returns c).After-put_runs))

@@ -1,8 +1,7 @@
 -- Each way through the call is the outcome of its case.
-use Rattle.std.proofs.Common.{◌∙◌, sym}
-use Rattle.reduction.specs.Reducing.{ClearRun}
-use Rattle.job.proofs.ReadJobs.{count_of_runs, place_fits}
-use Rattle.reduction.proofs.ClearJobs.{found_few}
+use Rattle.std.proofs.Common.{◌<◌, ◌∙◌, sym}
+use Rattle.job.proofs.ReadJobs.{place_fits}
+use Rattle.reduction.proofs.ClearJobs.{is_clear, found_few}
 use Rattle.findings.proofs.Seeking.{all_seekable}
 use Rattle.reduction.proofs.Naming.{found_inside}
 use Rattle.reduction.proofs.Working.{judged_all}
@@ -21,24 +20,24 @@ pub returns-in_err-k : goal.returns-in_err-k
 returns-in_err-k c =
     let (none, why) = none_there c.find_run.result _ c.in_err-k.ensures.value in
     rw (call_told _ _ c.from_residual-in_err-k.ensures.1, why)
-    (came_refused 10 0 _ _ (no_run _ _ _ _ _ _ c.in_ok-read.ensures c.find_run.ensures none))
+    (came_refused 10 0 _ _ (no_run _ _ _ _ _ _ c.in_ok-read.ensures.1 (rw c.in_ok-read.ensures.0 at c.find_run.ensures) none))
 
-found : (c : In_ok-k) → ClearRun c.args.job.now c.in_ok-read.read c.in_ok-k.k
-found c =
-    let job = c.in_ok-read.ensures in
-    let named = sym c.find_run.ensures ∙ some_there c.find_run.result _ c.in_ok-k.ensures.value in
-    record { job = job; inside = rw (count_of_runs _ _ job) at (found_inside _ _ _ named) }
+-- the run is one of the job's
+found : (c : In_ok-k) → c.in_ok-k.k < c.in_ok-read.read.job.runs
+found c = found_inside _ _ _ (sym c.find_run.ensures ∙ some_there c.find_run.result _ c.in_ok-k.ensures.value)
 
 pub reduce-requires : goal.reduce-requires
-reduce-requires c = record { clear = found (goal.at.reduce-requires c).In_ok-k; seekable = all_seekable }
+reduce-requires c = record { inside = found (goal.at.reduce-requires c).In_ok-k; seekable = all_seekable }
 
 pub hand_over-requires : goal.hand_over-requires
 hand_over-requires c =
-    let r = found (goal.at.hand_over-requires c).In_ok-k in
+    let r = is_clear c.in_ok-read.read.clear (found (goal.at.hand_over-requires c).In_ok-k) in
     rw (c.reduce.ensures, judged_all) (found_few _ _ r.job.clear _ r.inside)
 
 pub returns : goal.returns
 returns c =
+    let (same, ok) = c.in_ok-read.ensures in
+    let which = rw same at c.find_run.ensures in
     let named = some_there c.find_run.result _ c.in_ok-k.ensures.value in
-    let whole = one_run _ _ _ _ _ _ c.in_ok-read.ensures c.find_run.ensures named (c.reduce.ensures ∙ judged_all _ _ _) in
+    let whole = one_run _ _ _ _ _ _ ok which named ((rw same at c.reduce.ensures) ∙ judged_all _ _ _) in
     came_same whole c.hand_over.ensures

@@ -19,7 +19,7 @@ pub put_refusal-requires : goal.put_refusal-requires
 put_refusal-requires c = record { fits = omega (arith, refusal_short (reason_number c.in-Err.e.why) c.in-Err.e.place) }
 
 pub returns-in-Ok : goal.returns-in-Ok
-returns-in-Ok c = rw (text_of_runs _ _ _ c.in-Ok.ensures) at c.put_runs.ensures
+returns-in-Ok c = rw (c.in-Ok.ensures.0, text_of_runs _ _ _ c.in-Ok.ensures.1) at c.put_runs.ensures
 
 pub returns-in-Err : goal.returns-in-Err
 returns-in-Err c = rw (refused c.args.figure _ c.in-Err.ensures) (left_in_front c.put_refusal.ensures refl (search rules))

@@ -1,9 +1,9 @@
 -- The loop writes one run a turn.
 use Rattle.std.proofs.Common.{refl, rules, arith}
-use Rattle.reduction.specs.Reducing.{ClearRun, reduced_run}
+use Rattle.reduction.specs.Reducing.{reduced_run}
 use Rattle.job.proofs.ReadJobs.{count_of_runs}
 use Rattle.findings.proofs.Seeking.{all_seekable}
-use Rattle.reduction.proofs.ClearJobs.{found_few}
+use Rattle.reduction.proofs.ClearJobs.{is_clear, found_few}
 use Rattle.reduction.proofs.Working.{judged_all}
 use Rattle.output.specs.Bytes.{joined}
 use Rattle.characters.specs.Writing.{RoomFor}
@@ -12,29 +12,25 @@ use Rattle.text.specs.Runs.{run_text}
 use Rattle.printing.specs.Jobs.{runs_text}
 use Rattle.printing.proofs.Lengths.{runs_short}
 use Rattle.printing.proofs.jobs.put_runs.Goals as goal
-use Rattle.printing.proofs.jobs.put_runs.Goals.{In-loop-k, Start}
+use Rattle.printing.proofs.jobs.put_runs.Goals.{Start}
 
 -- room for all runs
-room : (c : Start) → RoomFor c.args.out.now (joined (λ i. run_text (reduced_run c.args.figure c.args.s.now i)) c.args.job.runs)
+room : (c : Start) → RoomFor c.args.out.now (joined (λ i. run_text (reduced_run c.args.figure c.args.read.file.bytes.now i)) c.args.read.job.runs)
 unfolding runs_text
 room c =
-    let short = runs_short c.args.figure _ c.requires.clear.clear in
-    rw (count_of_runs _ _ c.requires.clear) (record { fits = omega (arith, short, c.requires.room) })
-
-clear_run : (c : In-loop-k) → ClearRun c.args.s.now c.args.job c.loop-k.k
-clear_run c =
-    record { job = c.requires.clear; inside = rw (count_of_runs _ _ c.requires.clear) at c.loop-k-test.true }
+    let short = runs_short c.args.figure _ c.args.read.clear.clear in
+    rw (count_of_runs _ _ c.args.read.clear) (record { fits = omega (arith, short, c.requires) })
 
 pub loop-k-init : goal.loop-k-init
 loop-k-init c = (omega arith, joined_none _ _)
 
 pub reduce-requires : goal.reduce-requires
 reduce-requires c =
-    record { clear = clear_run (goal.at.reduce-requires c).In-loop-k; seekable = all_seekable }
+    record { inside = c.loop-k-test.true; seekable = all_seekable }
 
 pub put_run-requires : goal.put_run-requires
 put_run-requires c =
-    let r = clear_run (goal.at.put_run-requires c).In-loop-k in
+    let r = is_clear c.args.read.clear c.loop-k-test.true in
     rw (c.reduce.ensures, judged_all) (found_few _ _ r.job.clear _ r.inside, joined_room _ c.loop-k.invariant.1 (room_at_front (room (goal.at.put_run-requires c).Start) refl) c.loop-k-test.true)
 
 pub loop-k-preserved : goal.loop-k-preserved

@@ -8,4 +8,4 @@ use Rattle.printing.proofs.jobs.put_runs.Given as goal
 
 abbrev pub invariant-loop-k : goal.invariant-loop-k
 invariant-loop-k l =
-    (l.k ≤ l.job.runs) × Wrote l.initial.to (joined (λ i. run_text (reduced_run l.figure l.s i)) l.k) l.to
+    (l.k ≤ l.read.job.runs) × Wrote l.initial.to (joined (λ i. run_text (reduced_run l.figure l.read.file.bytes.now i)) l.k) l.to
