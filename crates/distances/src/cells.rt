@@ -21,29 +21,30 @@ fn larger_count(points: u16) -> u64
     count
 }
 
-// Cells along the first side: the larger count on the longer side, on the first where they are equal.
-pub fn first_cells(points: u16, first: u16, second: u16) -> u64
-    requires { grid_points points ≡ true }
-    ensures { result ≡ first_cells points first second }
-{
-    let larger = larger_count(points);
-    if second <= first {
-        larger
-    } else {
-        points as u64 / larger
-    }
+// How many cells there are along the first and along the second side.
+#[derive(Clone, Copy)]
+pub struct Cells {
+    pub first: u64,
+    pub second: u64,
 }
 
-// Cells along the second side: the larger count only where it is the longer one.
-pub fn second_cells(points: u16, first: u16, second: u16) -> u64
+// Cells along both sides: the larger count on the longer side, on the first where they are equal.
+pub fn cells_of(points: u16, first: u16, second: u16) -> Cells
     requires { grid_points points ≡ true }
-    ensures { result ≡ second_cells points first second }
+    ensures { (result.first ≡ first_cells points first second) × (result.second ≡ second_cells points first second) }
 {
     let larger = larger_count(points);
-    if first < second {
-        larger
+    let smaller = points as u64 / larger;
+    if second <= first {
+        Cells {
+            first: larger,
+            second: smaller,
+        }
     } else {
-        points as u64 / larger
+        Cells {
+            first: smaller,
+            second: larger,
+        }
     }
 }
 

@@ -8,7 +8,7 @@ ghost use Rattle.distances.specs.Round.{round_fits};
 ghost use Rattle.distances.specs.Rectangle.{rectangle_fits};
 ghost use Rattle.traverse.specs.Layout.{round_layout, rectangle_layout, IsLayout};
 
-use distances::cells::{center, first_cells, second_cells};
+use distances::cells::{Cells, cells_of, center};
 use distances::diameters::distance;
 use grids::GridPoints;
 use readings::certificates::NozzleDiameter;
@@ -79,8 +79,10 @@ pub fn rectangle(points: u16, first: u16, second: u16) -> Layout
     requires { rectangle_fits points first second ≡ true }
     ensures { IsLayout (rectangle_layout points first second) result }
 {
-    let columns = first_cells(points, first, second);
-    let rows = second_cells(points, first, second);
+    let Cells {
+        first: columns,
+        second: rows,
+    } = cells_of(points, first, second);
     let mut distances = [0u32; MOST_DISTANCES];
     let mut at: usize = 0;
     for j in 0..rows {

@@ -5,25 +5,22 @@ use Rattle.arrays.proofs.Filled.{filled_none}
 use Rattle.distances.proofs.RectangleLaws.{rectangle_ok, CellsOk, cells_ok}
 use Rattle.traverse.proofs.RowLaws.{rows_none, row_none, row_room, row_more, row_all, rows_all}
 use Rattle.traverse.proofs.rectangle.Goals as goal
-use Rattle.traverse.proofs.rectangle.Goals.{After-second_cells-rows, In-loop-i}
+use Rattle.traverse.proofs.rectangle.Goals.{After-cells_of-columns, In-loop-i}
 
-cells : (c : After-second_cells-rows) → CellsOk c.args.points c.first_cells-columns.result c.second_cells-rows.result
+cells : (c : After-cells_of-columns) → CellsOk c.args.points c.cells_of-columns.result.first c.cells_of-columns.result.second
 cells c =
-    rw (c.second_cells-rows.ensures, c.first_cells-columns.ensures) (cells_ok _ _ _ ((rectangle_ok _ _ _ c.requires)).points)
+    rw (c.cells_of-columns.ensures.1, c.cells_of-columns.ensures.0) (cells_ok _ _ _ ((rectangle_ok _ _ _ c.requires)).points)
 
 -- in a turn of the inner loop there is room for both distances
 room : (c : In-loop-i) → c.loop-i.at ≤ 96
 room c =
-    let below : c.loop-j.j < c.second_cells-rows.result = omega arith in
-    let inside : c.loop-i.i < c.first_cells-columns.result = omega arith in
+    let below : c.loop-j.j < c.cells_of-columns.result.second = omega arith in
+    let inside : c.loop-i.i < c.cells_of-columns.result.first = omega arith in
     let fits = row_room (cells c.before.before.before.before) c.loop-i.invariant below inside in
     omega arith
 
-pub first_cells-columns-requires : goal.first_cells-columns-requires
-first_cells-columns-requires c = ((rectangle_ok _ _ _ c.requires)).points
-
-pub second_cells-rows-requires : goal.second_cells-rows-requires
-second_cells-rows-requires c = ((rectangle_ok _ _ _ c.requires)).points
+pub cells_of-columns-requires : goal.cells_of-columns-requires
+cells_of-columns-requires c = ((rectangle_ok _ _ _ c.requires)).points
 
 pub loop-j-init : goal.loop-j-init
 loop-j-init c = rows_none (filled_none _ _)
@@ -32,11 +29,11 @@ pub loop-i-init : goal.loop-i-init
 loop-i-init c = row_none c.loop-j.invariant
 
 pub overflow_add-i : goal.overflow_add-i
-overflow_add-i c = omega (arith, (cells (goal.at.overflow_add-i c).After-second_cells-rows).columns_few)
+overflow_add-i c = omega (arith, (cells (goal.at.overflow_add-i c).After-cells_of-columns).columns_few)
 
 pub center-requires : goal.center-requires
 center-requires c =
-    let ok = cells (goal.at.center-requires c).After-second_cells-rows in
+    let ok = cells (goal.at.center-requires c).After-cells_of-columns in
     let all = (rectangle_ok _ _ _ c.requires) in
     omega arith
 
@@ -50,11 +47,11 @@ pub bounds-distances-at : goal.bounds-distances-at
 bounds-distances-at c = omega (arith, room (goal.at.bounds-distances-at c).In-loop-i)
 
 pub overflow_add-j : goal.overflow_add-j
-overflow_add-j c = omega (arith, (cells (goal.at.overflow_add-j c).After-second_cells-rows).rows_few)
+overflow_add-j c = omega (arith, (cells (goal.at.overflow_add-j c).After-cells_of-columns).rows_few)
 
 pub center-requires-in-loop-i : goal.center-requires-in-loop-i
 center-requires-in-loop-i c =
-    let ok = cells (goal.at.center-requires-in-loop-i c).After-second_cells-rows in
+    let ok = cells (goal.at.center-requires-in-loop-i c).After-cells_of-columns in
     let all = (rectangle_ok _ _ _ c.requires) in
     omega arith
 
@@ -75,11 +72,11 @@ overflow_add-at c = omega (arith, room (goal.at.overflow_add-at c).In-loop-i)
 
 pub loop-i-preserved : goal.loop-i-preserved
 loop-i-preserved c =
-    row_more (cells (goal.at.loop-i-preserved c).After-second_cells-rows) c.loop-i.invariant c.loop-j-test.true c.loop-i-test.true c.center.ensures.is c.center-in-loop-i.ensures.is
+    row_more (cells (goal.at.loop-i-preserved c).After-cells_of-columns) c.loop-i.invariant c.loop-j-test.true c.loop-i-test.true c.center.ensures.is c.center-in-loop-i.ensures.is
 
 pub loop-j-preserved : goal.loop-j-preserved
 loop-j-preserved c = row_all c.loop-i.invariant c.loop-j-test.true c.loop-i-test.false
 
 pub returns : goal.returns
 returns c =
-    rows_all _ c.first_cells-columns.ensures c.second_cells-rows.ensures c.loop-j.invariant c.loop-j-test.false
+    rows_all _ c.cells_of-columns.ensures.0 c.cells_of-columns.ensures.1 c.loop-j.invariant c.loop-j-test.false
