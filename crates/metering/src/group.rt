@@ -8,8 +8,8 @@ ghost use Rattle.metering.specs.Metering.{metering};
 ghost use Rattle.metering.specs.Promise.{MeteringOk};
 
 use crate::{
-    MeterPoints, Metering, corrected_volume, dry_volume, meter_points, meter_pressure,
-    metered_volume, moisture, water_vapor,
+    MeterPoints, Metering, SamplingRate, dry_volume, meter_points, meter_pressure, metered_volume,
+    moisture, water_vapor,
 };
 use records::Run;
 
@@ -29,7 +29,8 @@ pub fn metering(run: Run, y: Option<u64>) -> Metering
         temperature,
     } = meter_points(points);
     let volume = metered_volume(header.first, header.last);
-    let corrected = corrected_volume(time, volume, segments);
+    let rate = SamplingRate { time, volume };
+    let corrected = rate.corrected_volume(segments);
     let pressure = meter_pressure(header.pb as u64, orifice);
     let dry = dry_volume(corrected, y, pressure, temperature);
     let vapor = water_vapor(header.water as u64);
