@@ -12,9 +12,10 @@ use crate::{
     moisture, water_vapor,
 };
 use records::Run;
+use values::AirPressure;
 
 // From the run and its meter's factor Y.
-#[tactic(auto, using(crate::proofs::RunInRange::points_few, crate::proofs::RunInRange::segments_few))]
+#[tactic(auto, using(crate::proofs::RunInRange::points_few, crate::proofs::RunInRange::segments_few, crate::proofs::RunInRange::readings_apart, crate::proofs::RunInRange::water_most))]
 pub fn metering(run: Run, y: Option<u64>) -> Metering
     requires run { RunOk run }
     requires factor { Between least_factor greatest_factor y }
@@ -31,7 +32,7 @@ pub fn metering(run: Run, y: Option<u64>) -> Metering
     let volume = metered_volume(header.first, header.last);
     let rate = SamplingRate { time, volume };
     let corrected = rate.corrected_volume(segments);
-    let pressure = meter_pressure(header.pb as u64, orifice);
+    let pressure = meter_pressure(AirPressure::of(header), orifice);
     let dry = dry_volume(corrected, y, pressure, temperature);
     let vapor = water_vapor(header.water as u64);
     Metering {
