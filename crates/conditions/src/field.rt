@@ -1,13 +1,12 @@
 // Rules 10 and 11: points and segments.
 
-ghost use Rattle.std.specs.Prelude.{◌≡◌, ◌≤◌};
-ghost use Rattle.readings.specs.Ranges.{greatest_above_first, greatest_total_seconds};
+ghost use Rattle.std.specs.Prelude.{◌≡◌};
 ghost use Rattle.conditions.specs.Conditions.{short, leaking};
 
 use crate::Part;
 use grounds::Ground;
 use grounds::comparison::{Comparison, Way};
-use metering::allowance;
+use metering::SamplingRate;
 
 // The least time at a point, seconds.
 const LEAST_TIME_AT_POINT: u64 = 120;
@@ -27,18 +26,17 @@ pub fn short(part: Part) -> Ground
     })
 }
 
-// Rule 11: a segment's leak above the allowance, of a run of that time T and metered volume V.
+// Rule 11: a segment's leak above the allowance, at a run's sampling rate.
 #[tactic(auto, unfolding(crate::specs::Conditions::leaking))]
-pub fn leaking(time: u64, volume: u64, part: Part) -> Ground
-    requires { (time ≤ greatest_total_seconds) × (volume ≤ greatest_above_first) }
-    ensures { result ≡ leaking time volume part }
+pub fn leaking(rate: SamplingRate, part: Part) -> Ground
+    ensures { result ≡ leaking rate.time rate.volume part }
 {
     let Part::OneSegment(segment) = part else {
         return Ground::Silent;
     };
     Ground::Compared(Comparison {
-        left: 5 * time * segment.leak as u64,
+        left: 5 * rate.time * segment.leak as u64,
         way: Way::Above,
-        right: allowance(time, volume),
+        right: rate.allowance(),
     })
 }

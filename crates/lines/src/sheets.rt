@@ -10,10 +10,10 @@ use metering::group::metering;
 use records::Run;
 use sampling::group::sampling;
 use stack::group::stack;
-use values::Diameters;
+use values::{AirPressure, Diameters};
 
 // All twenty, from a run and the values of its certificates.
-#[tactic(auto, using(metering::proofs::RunInRange::points_few))]
+#[tactic(auto, using(metering::proofs::RunInRange::points_few, crate::proofs::RunInRange::gas_range))]
 pub fn lines(run: Run, y: Option<u64>, cp: Option<u64>, nozzle: Option<Diameters>) -> Lines
     requires { RunWithValues run y cp nozzle }
     ensures { (result ≡ lines run y cp nozzle) × LinesOk result }
@@ -25,7 +25,7 @@ pub fn lines(run: Run, y: Option<u64>, cp: Option<u64>, nozzle: Option<Diameters
         header.co2 as u64,
         header.o2 as u64,
         m.moisture,
-        header.pb as u64,
+        AirPressure::of(header),
         header.pg,
         points,
         cp,

@@ -8,13 +8,14 @@ ghost use Rattle.metering.specs.Metering.{metering};
 ghost use Rattle.metering.specs.Promise.{MeteringOk};
 
 use crate::{
-    MeterPoints, Metering, corrected_volume, dry_volume, meter_points, meter_pressure,
-    metered_volume, moisture, water_vapor,
+    MeterPoints, Metering, SamplingRate, dry_volume, meter_points, meter_pressure, metered_volume,
+    moisture, water_vapor,
 };
 use records::Run;
+use values::AirPressure;
 
 // From the run and its meter's factor Y.
-#[tactic(auto, using(crate::proofs::RunInRange::points_few, crate::proofs::RunInRange::segments_few))]
+#[tactic(auto, using(crate::proofs::RunInRange::points_few, crate::proofs::RunInRange::segments_few, crate::proofs::RunInRange::readings_apart, crate::proofs::RunInRange::water_most))]
 pub fn metering(run: Run, y: Option<u64>) -> Metering
     requires run { RunOk run }
     requires factor { Between least_factor greatest_factor y }
@@ -29,8 +30,9 @@ pub fn metering(run: Run, y: Option<u64>) -> Metering
         temperature,
     } = meter_points(points);
     let volume = metered_volume(header.first, header.last);
-    let corrected = corrected_volume(time, volume, segments);
-    let pressure = meter_pressure(header.pb as u64, orifice);
+    let rate = SamplingRate { time, volume };
+    let corrected = rate.corrected_volume(segments);
+    let pressure = meter_pressure(AirPressure::of(header), orifice);
     let dry = dry_volume(corrected, y, pressure, temperature);
     let vapor = water_vapor(header.water as u64);
     Metering {

@@ -15,6 +15,7 @@ use conditions::weighings::{lacking, negative, unsteady};
 use grounds::Ground;
 use grounds::comparison::Way;
 use lines::Lines;
+use metering::SamplingRate;
 use records::{Counts, Site};
 use site::{disturbed, narrow, wrong_points};
 
@@ -44,6 +45,10 @@ pub fn ground_of(part: Part, beside: Beside, rule: u8) -> Ground
     let metering = beside.lines.metering;
     let stack = beside.lines.stack;
     let sampling = beside.lines.sampling;
+    let rate = SamplingRate {
+        time: metering.time,
+        volume: metering.volume,
+    };
     match rule {
         1 => missing(chosen.before),
         2 => missing(chosen.pitot),
@@ -55,7 +60,7 @@ pub fn ground_of(part: Part, beside: Beside, rule: u8) -> Ground
         8 => disturbed(beside.site),
         9 => wrong_points(beside.site.shape, beside.least, beside.counts.points),
         10 => short(part),
-        11 => leaking(metering.time, metering.volume, part),
+        11 => leaking(rate, part),
         12 => line_against(Some(metering.corrected), Way::Same, 0),
         14 => line_against(stack.velocity, Way::Same, 0),
         15 => ratio_against(sampling.isokinetic, Way::Below, Isokinetic::LEAST),

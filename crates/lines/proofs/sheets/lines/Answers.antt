@@ -1,15 +1,11 @@
 -- The three parts of the sheet, from a run in range and the values of its certificates.
 use native.Mathlib.Omega.{arith}
 use mathlib.Core.Path.{◌∙◌}
-use Rattle.metering.proofs.RunInRange.{pb_range}
 use Rattle.stack.proofs.Pressure.{pressure_bits}
 use Rattle.stack.proofs.Taken.{traverse_taken, stack_taken}
-use Rattle.lines.proofs.RunInRange.{traverse_ok, gas_range}
+use Rattle.lines.proofs.RunInRange.{traverse_ok}
 use Rattle.lines.proofs.Together.{is_lines}
 use Rattle.lines.proofs.sheets.lines.Goals as goal
-
-pub stack-s-requires-clause-ranges : goal.stack-s-requires-clause-ranges
-stack-s-requires-clause-ranges c = let pb = pb_range _ c.requires.run in (gas_range _ c.requires.run, pb.0, pb.1)
 
 pub stack-s-requires-clause-traverse : goal.stack-s-requires-clause-traverse
 stack-s-requires-clause-traverse c =
@@ -21,6 +17,6 @@ returns c =
     let s = c.stack-s.ensures in
     let p = c.sampling.ensures in
     let same = stack_taken _ _ (omega (arith, (traverse_ok _ c.requires.run).few)) _ _ _ _ _ _ in (
-      is_lines _ _ _ _ (pressure_bits _ c.requires.run.header.pg) m.0 (s.0 ∙ same) p.0,
+      is_lines _ _ _ _ (pressure_bits _ c.requires.run.header.pg) m.0 (rw c.of.ensures at (s.0 ∙ same)) p.0,
       record { metering = m.1; stack = s.1; sampling = p.1 },
     )

@@ -1,7 +1,7 @@
 -- Lines 1 to 8 together: each call's promise, and the ranges that the next one asks.
 use native.Mathlib.Omega.{arith}
 use Rattle.std.proofs.Common.{◌≤◌, length, ◌∙◌}
-use Rattle.metering.proofs.RunInRange.{points_ok, segments_ok, points_few, segments_few, time_most_lem, readings_apart, pb_range, water_most}
+use Rattle.metering.proofs.RunInRange.{points_ok, segments_ok, points_few, segments_few, time_most_lem}
 use Rattle.metering.proofs.Taken.{points_taken, segments_taken, time_taken, orifice_taken, temperature_taken, corrected_taken}
 use Rattle.metering.proofs.Together.{is_metering}
 use Rattle.metering.proofs.group.metering.Goals as goal
@@ -12,20 +12,9 @@ meter_points-time-requires c =
     let whole : c.args.run.header.counts.points ≤ length c.args.run.points = omega (arith, ok.few) in
     record { points = points_taken _ _ whole ok; seconds = rw (time_taken _ _ whole) (time_most_lem _ c.requires.run) }
 
-pub metered_volume-volume-requires : goal.metered_volume-volume-requires
-metered_volume-volume-requires c = readings_apart _ c.requires.run
-
 pub corrected_volume-corrected-requires-clause-segments : goal.corrected_volume-corrected-requires-clause-segments
 corrected_volume-corrected-requires-clause-segments c =
     let ok = segments_ok _ c.requires.run in segments_taken _ _ (omega (arith, ok.few)) ok
-
-pub meter_pressure-pressure-requires : goal.meter_pressure-pressure-requires
-meter_pressure-pressure-requires c =
-    let pb = pb_range _ c.requires.run in
-    (pb.0, pb.1, c.meter_points-time.ensures.orifice.high)
-
-pub water_vapor-vapor-requires : goal.water_vapor-vapor-requires
-water_vapor-vapor-requires c = water_most _ c.requires.run
 
 pub returns : goal.returns
 returns c =
@@ -39,7 +28,7 @@ returns c =
     let temperature = points.temperature in
     let whole : c.args.run.header.counts.points ≤ length c.args.run.points = omega (arith, points_few _ c.requires.run) in
     let all : c.args.run.header.counts.segments ≤ length c.args.run.segments = omega (arith, segments_few _ c.requires.run) in (
-      is_metering _ _ (t.is ∙ time_taken _ _ whole) v.is (corrected.is ∙ corrected_taken _ _ all _ _) (points.orifice.is ∙ orifice_taken _ _ whole) pressure.is (temperature.is ∙ temperature_taken _ _ whole) dry.is vapor.is c.moisture.ensures.is,
+      is_metering _ _ (t.is ∙ time_taken _ _ whole) v.is (corrected.is ∙ corrected_taken _ _ all _ _) (points.orifice.is ∙ orifice_taken _ _ whole) (rw c.of.ensures at pressure.is) (temperature.is ∙ temperature_taken _ _ whole) dry.is vapor.is c.moisture.ensures.is,
       record {
         time_least = t.low;
         time_most = t.high;
