@@ -91,10 +91,9 @@ pub struct Walked {
 }
 
 // What the rules may see of a run beside the part that each looks at.
-#[tactic(auto, using(crate::proofs::Counted::kind_taken), unfolding(crate::specs::Listing::beside_of))]
-fn beside_of(figure: Figure, run: Run, chosen: Chosen, lines: Lines) -> Beside
-    requires { run.header.counts.weighings ≤ greatest_weighing_count }
-    ensures { result ≡ beside_of figure run chosen lines }
+fn beside_of(figure: Figure, run: &Run, chosen: Chosen, lines: Lines) -> Beside
+    requires { run.now.header.counts.weighings ≤ greatest_weighing_count }
+    ensures { result ≡ beside_of figure run.now chosen lines }
 {
     let site = run.header.site;
     let counts = run.header.counts;
@@ -127,19 +126,16 @@ fn finding_at(v: Version, rule: u8, i: u8) -> Finding
 pub fn find(
     v: Version,
     figure: Figure,
-    run: Run,
+    run: &Run,
     chosen: Chosen,
     lines: Lines,
     sought: Sought,
 ) -> Walked
-    requires worked { Worked run lines }
+    requires worked { Worked run.now lines }
     requires seekable { Seekable sought }
-    ensures { result ≡ walked sought v figure run chosen lines }
+    ensures { result ≡ walked sought v figure run.now chosen lines }
 {
     let header = run.header;
-    let points = run.points;
-    let segments = run.segments;
-    let weighings = run.weighings;
     let beside = beside_of(figure, run, chosen, lines);
     let before = sought.before();
     let last = sought.last();
@@ -157,9 +153,9 @@ pub fn find(
         let rule = done + 1;
         for i in 0..classes::places(header.counts, rule) {
             let part = match rule {
-                10 => Part::OnePoint(points[i as usize]),
-                11 => Part::OneSegment(segments[i as usize]),
-                17 => Part::OneWeighing(weighings[i as usize]),
+                10 => Part::OnePoint(run.points[i as usize]),
+                11 => Part::OneSegment(run.segments[i as usize]),
+                17 => Part::OneWeighing(run.weighings[i as usize]),
                 _ => Part::Whole,
             };
             let ground = rules::ground_of(part, beside, rule);

@@ -14,9 +14,9 @@ use values::{AirPressure, Diameters};
 
 // All twenty, from a run and the values of its certificates.
 #[tactic(auto, using(metering::proofs::RunInRange::points_few, crate::proofs::RunInRange::gas_range))]
-pub fn lines(run: Run, y: Option<u64>, cp: Option<u64>, nozzle: Option<Diameters>) -> Lines
-    requires { RunWithValues run y cp nozzle }
-    ensures { (result ≡ lines run y cp nozzle) × LinesOk result }
+pub fn lines(run: &Run, y: Option<u64>, cp: Option<u64>, nozzle: Option<Diameters>) -> Lines
+    requires { RunWithValues run.now y cp nozzle }
+    ensures { (result ≡ lines run.now y cp nozzle) × LinesOk result }
 {
     let header = run.header;
     let points = &run.points[..header.counts.points as usize];

@@ -16,10 +16,10 @@ use values::AirPressure;
 
 // From the run and its meter's factor Y.
 #[tactic(auto, using(crate::proofs::RunInRange::points_few, crate::proofs::RunInRange::segments_few, crate::proofs::RunInRange::readings_apart, crate::proofs::RunInRange::water_most))]
-pub fn metering(run: Run, y: Option<u64>) -> Metering
-    requires run { RunOk run }
+pub fn metering(run: &Run, y: Option<u64>) -> Metering
+    requires run { RunOk run.now }
     requires factor { Between least_factor greatest_factor y }
-    ensures { (result ≡ metering run y) × MeteringOk result }
+    ensures { (result ≡ metering run.now y) × MeteringOk result }
 {
     let header = run.header;
     let points = &run.points[..header.counts.points as usize];

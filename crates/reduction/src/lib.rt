@@ -32,10 +32,10 @@ pub struct Reduced {
 
 // A run, wherever it comes from, reduced with the certificates of a file, by its version and by a figure, and what is sought of its
 // findings.
-pub fn work(all: Certificates<'_>, figure: Figure, run: Run, sought: Sought) -> Reduced
-    requires reducible { Reducible (certificate_of all.file.bytes.now) all.count run }
+pub fn work(all: Certificates<'_>, figure: Figure, run: &Run, sought: Sought) -> Reduced
+    requires reducible { Reducible (certificate_of all.file.bytes.now) all.count run.now }
     requires seekable { Seekable sought }
-    ensures { result ≡ judged sought all.entry.file.version figure run (chosen_for (certificate_of all.entry.file.bytes.now) all.entry.count run.header) }
+    ensures { result ≡ judged sought all.entry.file.version figure run.now (chosen_for (certificate_of all.entry.file.bytes.now) all.entry.count run.now.header) }
 {
     let v = all.file.version;
     let chosen = certs::choose_all(all, run.header);
@@ -65,7 +65,7 @@ pub fn reduce(read: ClearFile<'_>, figure: Figure, k: usize, sought: Sought) -> 
         file: read.file,
         count: read.job.certificates,
     };
-    work(all, figure, run, sought)
+    work(all, figure, &run, sought)
 }
 
 // The run of that number in a job without trouble. Numbers rise, so there is at most one.

@@ -16,12 +16,12 @@ use values::Diameters;
 
 // From the run, its lines 1 to 15 and its nozzle's diameters.
 #[tactic(auto, using(crate::proofs::RunInRange::weighings_few))]
-pub fn sampling(run: Run, m: Metering, s: Stack, nozzle: Option<Diameters>) -> Sampling
-    requires run { RunOk run }
+pub fn sampling(run: &Run, m: Metering, s: Stack, nozzle: Option<Diameters>) -> Sampling
+    requires run { RunOk run.now }
     requires metering { MeteringOk m }
     requires stack { StackOk s }
     requires diameters { DiametersOk nozzle }
-    ensures { (result ≡ sampling run m s nozzle) × SamplingOk result }
+    ensures { (result ≡ sampling run.now m s nozzle) × SamplingOk result }
 {
     let header = run.header;
     let weighings = &run.weighings[..header.counts.weighings as usize];

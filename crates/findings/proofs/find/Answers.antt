@@ -29,7 +29,7 @@ broken_of run beside rule i = broken (ground_of (part_of run rule i) beside rule
 -- A turn of the inner loop, once the rule is judged
 
 -- the part that the rule looks at
-part_is : (c : After-broken) → c.match-rule.part ≡ part_of c.args.run (c.loop-done.done + 1) c.loop-i.i
+part_is : (c : After-broken) → c.match-rule.part ≡ part_of c.args.run.now (c.loop-done.done + 1) c.loop-i.i
 part_is c =
     elim c.match-rule.branch [
       | in-10 w ↦ w.part-is ∙ part_point _ _ w.in-10.is
@@ -39,33 +39,33 @@ part_is c =
     ]
 
 -- what its rule goes by there is the ground of the run
-ground_is : (c : After-broken) → c.ground_of-ground.result ≡ ground_of (part_of c.args.run (c.loop-done.done + 1) c.loop-i.i) c.beside_of-beside.result (c.loop-done.done + 1)
+ground_is : (c : After-broken) → c.ground_of-ground.result ≡ ground_of (part_of c.args.run.now (c.loop-done.done + 1) c.loop-i.i) c.beside_of-beside.result (c.loop-done.done + 1)
 ground_is c = rw (part_is c) at c.ground_of-ground.ensures
 
 -- the test is whether the rule is broken there
-test_is : (c : After-broken) → c.broken.result ≡ broken_of c.args.run c.beside_of-beside.result (c.loop-done.done + 1) c.loop-i.i
+test_is : (c : After-broken) → c.broken.result ≡ broken_of c.args.run.now c.beside_of-beside.result (c.loop-done.done + 1) c.loop-i.i
 test_is c = c.broken.ensures ∙ ap broken (ground_is c)
 
 -- the rule is one of those that are looked at, and so is the place
 rule_in : (c : After-broken) → c.loop-done.done < last_rule
 rule_in c = omega (arith, c.loop-done-test.true, c.last-last.ensures, c.requires.seekable.last)
 
-place_in : (c : After-broken) → c.loop-i.i < places_of c.args.run.header.counts (c.loop-done.done + 1)
+place_in : (c : After-broken) → c.loop-i.i < places_of c.args.run.now.header.counts (c.loop-done.done + 1)
 place_in c = rw c.places-i-end.ensures at c.loop-i-test.true
 
-place_above : (c : After-broken) → c.loop-i.i < places_from c.before-before.result c.args.run.header.counts (c.loop-done.done + 1)
+place_above : (c : After-broken) → c.loop-i.i < places_from c.before-before.result c.args.run.now.header.counts (c.loop-done.done + 1)
 place_above c = rw (places_above c.before-before.result _ _ c.loop-done.auto.done) (place_in c)
 
 -- what is entered when a turn begins
 entered :
     (c : After-broken)
-    → Entered (findings_to c.args.v (broken_of c.args.run c.beside_of-beside.result) (places_from c.before-before.result c.args.run.header.counts) c.loop-done.done ++ rule_findings c.args.v (broken_of c.args.run c.beside_of-beside.result (c.loop-done.done + 1)) (c.loop-done.done + 1) c.loop-i.i) c.loop-i.count c.loop-i.found.list
+    → Entered (findings_to c.args.v (broken_of c.args.run.now c.beside_of-beside.result) (places_from c.before-before.result c.args.run.now.header.counts) c.loop-done.done ++ rule_findings c.args.v (broken_of c.args.run.now c.beside_of-beside.result (c.loop-done.done + 1)) (c.loop-done.done + 1) c.loop-i.i) c.loop-i.count c.loop-i.found.list
 entered c = c.loop-i.invariant.1 _ c.loop-done.invariant.1
 
 -- all of a run's findings fit
 fits :
     (c : After-broken)
-    → length (findings_to c.args.v (broken_of c.args.run c.beside_of-beside.result) (places_from c.before-before.result c.args.run.header.counts) last_rule) ≤ most_findings
+    → length (findings_to c.args.v (broken_of c.args.run.now c.beside_of-beside.result) (places_from c.before-before.result c.args.run.now.header.counts) last_rule) ≤ most_findings
 fits c = le_trans (fewer _ _ _ _ (places_fewer _ _) _) (all_fit_beside _ _ _ _ _ c.requires.worked c.beside_of-beside.ensures)
 
 -- a broken rule finds room
@@ -84,17 +84,17 @@ loop-done-init c = (
 pub loop-i-init : goal.loop-i-init
 loop-i-init c = (
   (λ i h. absurd (omega (arith, h))),
-  (λ fs s. entered_first _ (broken_of c.args.run c.beside_of-beside.result) fs (c.loop-done.done + 1) s),
+  (λ fs s. entered_first _ (broken_of c.args.run.now c.beside_of-beside.result) fs (c.loop-done.done + 1) s),
 )
 
-pub bounds-points-i : goal.bounds-points-i
-bounds-points-i c = point_in _ _ c.requires.worked c.in-10.is (rw c.places-i-end.ensures at c.loop-i-test.true)
+pub bounds-run-i : goal.bounds-run-i
+bounds-run-i c = point_in _ _ c.requires.worked c.in-10.is (rw c.places-i-end.ensures at c.loop-i-test.true)
 
-pub bounds-segments-i : goal.bounds-segments-i
-bounds-segments-i c = segment_in _ _ c.requires.worked c.in-11.is (rw c.places-i-end.ensures at c.loop-i-test.true)
+pub bounds-run-i-in-11 : goal.bounds-run-i-in-11
+bounds-run-i-in-11 c = segment_in _ _ c.requires.worked c.in-11.is (rw c.places-i-end.ensures at c.loop-i-test.true)
 
-pub bounds-weighings-i : goal.bounds-weighings-i
-bounds-weighings-i c = weighing_in _ _ c.requires.worked c.in-17.is (rw c.places-i-end.ensures at c.loop-i-test.true)
+pub bounds-run-i-in-17 : goal.bounds-run-i-in-17
+bounds-run-i-in-17 c = weighing_in _ _ c.requires.worked c.in-17.is (rw c.places-i-end.ensures at c.loop-i-test.true)
 
 pub ground_of-ground-requires : goal.ground_of-ground-requires
 ground_of-ground-requires c = judgeable _ _ c.requires.worked _ _ c.beside_of-beside.ensures
@@ -127,7 +127,7 @@ loop-i-preserved c =
     let judged = (goal.at.loop-i-preserved c).After-broken in
     let inv = c.loop-i.invariant in
     let test = test_is judged in
-    let is_broken = broken_of c.args.run c.beside_of-beside.result in
+    let is_broken = broken_of c.args.run.now c.beside_of-beside.result in
     elim c.if-broken.branch [
       | then-broken+else-finding-place w ↦ (
         passed_more is_broken _ _ _ (λ broke at. w.if-finding-place.false (ap (λ (f : Finding). f.place) w.finding_at-finding.ensures ∙ at)) inv.0,

@@ -1,13 +1,9 @@
 -- The outer invariant: the findings of the rules done are entered in the list, and no place passed was both broken and the one sought; the
 -- inner: the same of the rule's places passed, behind whatever was entered before.
--- The loops see the run's header and lists and what stands beside them; what they find is the run's, with its certificates and lines.
 use Prim.Native.Nat.{ℕ, ◌+◌}
 use mathlib.Core.Bool.{Bool}
 use mathlib.Core.List.{List, ◌++◌}
-use Rattle.records.specs.declared.Point.{Point}
-use Rattle.records.specs.declared.Segment.{Segment}
-use Rattle.records.specs.declared.Weighing.{Weighing}
-use Rattle.records.specs.declared.RunHeader.{RunHeader}
+use Rattle.records.specs.declared.Run.{Run}
 use Rattle.rules.specs.declared.Beside.{Beside}
 use Rattle.grounds.specs.Grounds.{broken}
 use Rattle.rules.specs.Rules.{ground_of}
@@ -18,16 +14,15 @@ use Rattle.findings.proofs.Seeking.{places_from, Passed, PassedTo}
 use Rattle.findings.proofs.find.Given as goal
 
 -- whether a rule is broken at its place i, by what the loops see
-abbrev pub broken_in : RunHeader → List Point → List Segment → List Weighing → Beside → ℕ → ℕ → Bool
-broken_in header points segments weighings beside rule i =
-    broken (ground_of (part_of (record { header = header; points = points; segments = segments; weighings = weighings }) rule i) beside rule)
+abbrev pub broken_in : Run → Beside → ℕ → ℕ → Bool
+broken_in run beside rule i = broken (ground_of (part_of run rule i) beside rule)
 
 abbrev pub invariant-loop-i : goal.invariant-loop-i
 invariant-loop-i l =
-    Passed (broken_in l.header l.points l.segments l.weighings l.beside) l.place (l.done + 1) l.i
-    × ((fs : List Finding) → Entered fs l.initial.count l.initial.found.list → Entered (fs ++ rule_findings l.v (broken_in l.header l.points l.segments l.weighings l.beside (l.done + 1)) (l.done + 1) l.i) l.count l.found.list)
+    Passed (broken_in l.run l.beside) l.place (l.done + 1) l.i
+    × ((fs : List Finding) → Entered fs l.initial.count l.initial.found.list → Entered (fs ++ rule_findings l.v (broken_in l.run l.beside (l.done + 1)) (l.done + 1) l.i) l.count l.found.list)
 
 abbrev pub invariant-loop-done : goal.invariant-loop-done
 invariant-loop-done l =
-    PassedTo (broken_in l.header l.points l.segments l.weighings l.beside) l.header.counts l.place l.initial.done l.done
-    × Entered (findings_to l.v (broken_in l.header l.points l.segments l.weighings l.beside) (places_from l.initial.done l.header.counts) l.done) l.count l.found.list
+    PassedTo (broken_in l.run l.beside) l.header.counts l.place l.initial.done l.done
+    × Entered (findings_to l.v (broken_in l.run l.beside) (places_from l.initial.done l.header.counts) l.done) l.count l.found.list
