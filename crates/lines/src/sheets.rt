@@ -25,7 +25,7 @@ pub fn lines(run: &Run, y: Option<u64>, cp: Option<u64>, nozzle: Option<Diameter
         header.co2 as u64,
         header.o2 as u64,
         m.moisture,
-        AirPressure::of(header),
+        AirPressure::of(header.pb),
         header.pg,
         points,
         cp,

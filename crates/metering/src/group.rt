@@ -32,7 +32,7 @@ pub fn metering(run: &Run, y: Option<u64>) -> Metering
     let volume = metered_volume(header.first, header.last);
     let rate = SamplingRate { time, volume };
     let corrected = rate.corrected_volume(segments);
-    let pressure = meter_pressure(AirPressure::of(header), orifice);
+    let pressure = meter_pressure(AirPressure::of(header.pb), orifice);
     let dry = dry_volume(corrected, y, pressure, temperature);
     let vapor = water_vapor(header.water as u64);
     Metering {

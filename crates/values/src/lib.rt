@@ -7,13 +7,11 @@
 
 pub mod signed;
 
-ghost use Rattle.std.specs.Prelude.{◌≡◌, ◌≤◌};
-ghost use Rattle.readings.specs.Ranges.{least_barometer, greatest_barometer};
-ghost use Rattle.records.specs.InRange.{HeaderOk};
+ghost use Rattle.std.specs.Prelude.{◌≡◌, ◌≤◌, true};
+ghost use Rattle.readings.specs.Ranges.{least_barometer, greatest_barometer, barometer};
 ghost use Rattle.values.specs.Promise.{rounded_ratio};
 
 use arith::Division;
-use records::RunHeader;
 
 // A nozzle's three diameters, 0.001 in.
 #[derive(Clone, Copy)]
@@ -32,15 +30,13 @@ pub struct AirPressure {
 }
 
 impl AirPressure {
-    // What a run's header says of it.
+    // A reading of the barometer that is in range.
     #[tactic(auto, using(readings::proofs::Ranges::within_least, readings::proofs::Ranges::within_greatest))]
-    pub fn of(header: RunHeader) -> AirPressure
-        requires { HeaderOk header }
-        ensures { result.pb ≡ header.pb }
+    pub fn of(pb: u16) -> AirPressure
+        requires { barometer pb ≡ true }
+        ensures { result.pb ≡ pb }
     {
-        AirPressure {
-            pb: header.pb as u64,
-        }
+        AirPressure { pb: pb as u64 }
     }
 }
 
