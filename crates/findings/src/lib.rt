@@ -140,13 +140,16 @@ pub fn find(
     let before = sought.before();
     let last = sought.last();
     let place = sought.place();
-    let mut found = Findings {
-        count: 0,
-        list: [Finding {
-            rule: 0,
-            class: Class::Fault,
-            place: 0,
-        }; MOST_FINDINGS],
+    let mut walked = Walked {
+        findings: Findings {
+            count: 0,
+            list: [Finding {
+                rule: 0,
+                class: Class::Fault,
+                place: 0,
+            }; MOST_FINDINGS],
+        },
+        basis: Ground::Silent,
     };
     let mut count: usize = 0;
     for done in before..last {
@@ -162,22 +165,17 @@ pub fn find(
             if ground.broken() {
                 let finding = finding_at(v, rule, i);
                 if finding.place == place {
-                    found.count = count;
-                    return Walked {
-                        findings: found,
-                        basis: ground,
-                    };
+                    walked.findings.count = count;
+                    walked.basis = ground;
+                    return walked;
                 }
-                found.list[count] = finding;
+                walked.findings.list[count] = finding;
                 count += 1;
             }
         }
     }
-    found.count = count;
-    Walked {
-        findings: found,
-        basis: Ground::Silent,
-    }
+    walked.findings.count = count;
+    walked
 }
 
 // Whether no finding is a fault.

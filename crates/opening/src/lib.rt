@@ -82,22 +82,18 @@ pub fn letters(v: Version, n: usize) -> usize
     n * each(v)
 }
 
-// The rows of the header.
+// The rows of the header, one asked after another, so that a file which is no job is told by its mark alone.
 fn rows(s: &[u8]) -> Result<(), BadFile>
     requires { file_header_size ≤ length s.now }
     ensures { trouble_of result ≡ checks Clear (file_rows s.now) }
 {
-    trouble::row(marked(s), Reason::Mark, 0)
-        .and(trouble::row(
-            Version::check(numbers::u16_at(s, VERSION_AT)),
-            Reason::Version,
-            VERSION_AT,
-        ))
-        .and(trouble::count(
-            CERTIFICATES_AT,
-            CertificateCount::check(numbers::u16_at(s, CERTIFICATES_AT)),
-        ))
-        .and(trouble::count(RUNS_AT, RunCount::check(numbers::u16_at(s, RUNS_AT))))
+    let version = numbers::u16_at(s, VERSION_AT);
+    let certificates = numbers::u16_at(s, CERTIFICATES_AT);
+    let runs = numbers::u16_at(s, RUNS_AT);
+    trouble::row(marked(s), Reason::Mark, 0)?;
+    trouble::row(Version::check(version), Reason::Version, VERSION_AT)?;
+    trouble::count(CERTIFICATES_AT, CertificateCount::check(certificates))?;
+    trouble::count(RUNS_AT, RunCount::check(runs))
 }
 
 // The first trouble met in the header.

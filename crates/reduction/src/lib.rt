@@ -44,12 +44,11 @@ pub fn work(all: Certificates<'_>, figure: Figure, run: &Run, sought: Sought) ->
     let nozzle = factors::diameters_of(chosen);
     let l = sheets::lines(run, y, cp, nozzle);
     let walked = findings::find(v, figure, run, chosen, l, sought);
-    let found = walked.findings;
     Reduced {
         number: run.header.number,
-        accepted: findings::accepted(&found.list[..found.count]),
+        accepted: findings::accepted(&walked.findings.list[..walked.findings.count]),
         sheet: sheets::sheet(l),
-        findings: found,
+        findings: walked.findings,
         basis: walked.basis,
     }
 }

@@ -1,6 +1,6 @@
 -- `find` is `walked`: at each place of each rule that is looked at, what its rule goes by there decides, and a broken rule is entered or sought.
 use Prim.Native.Nat.{ℕ, ◌+◌, ◌≤◌, ◌<◌}
-use mathlib.Core.Path.{◌≡◌, ◌∙◌, sym, ap}
+use mathlib.Core.Path.{◌≡◌, refl, ◌∙◌, sym, ap}
 use mathlib.Core.Bool.{Bool, true, true≢false}
 use mathlib.Core.List.{◌++◌}
 use native.Mathlib.Nat.{le_refl, le_trans}
@@ -59,7 +59,7 @@ place_above c = rw (places_above c.before-before.result _ _ c.loop-done.auto.don
 -- what is entered when a turn begins
 entered :
     (c : After-broken)
-    → Entered (findings_to c.args.v (broken_of c.args.run.now c.beside_of-beside.result) (places_from c.before-before.result c.args.run.now.header.counts) c.loop-done.done ++ rule_findings c.args.v (broken_of c.args.run.now c.beside_of-beside.result (c.loop-done.done + 1)) (c.loop-done.done + 1) c.loop-i.i) c.loop-i.count c.loop-i.found.list
+    → Entered (findings_to c.args.v (broken_of c.args.run.now c.beside_of-beside.result) (places_from c.before-before.result c.args.run.now.header.counts) c.loop-done.done ++ rule_findings c.args.v (broken_of c.args.run.now c.beside_of-beside.result (c.loop-done.done + 1)) (c.loop-done.done + 1) c.loop-i.i) c.loop-i.count c.loop-i.walked.findings.list
 entered c = c.loop-i.invariant.1 _ c.loop-done.invariant.1
 
 -- all of a run's findings fit
@@ -79,12 +79,14 @@ pub loop-done-init : goal.loop-done-init
 loop-done-init c = (
   (λ rule above below. absurd (omega (arith, above, below))),
   rw (nothing_before _ _ _ _ _ (le_refl _)) (filled_none _ _),
+  refl,
 )
 
 pub loop-i-init : goal.loop-i-init
 loop-i-init c = (
   (λ i h. absurd (omega (arith, h))),
   (λ fs s. entered_first _ (broken_of c.args.run.now c.beside_of-beside.result) fs (c.loop-done.done + 1) s),
+  c.loop-done.invariant.2,
 )
 
 pub bounds-run-i : goal.bounds-run-i
@@ -112,11 +114,11 @@ returns-then-finding-place c =
     (sym c.broken.ensures ∙ c.if-broken.true)
     (entered judged)
 
-pub offset_bounds-found-count : goal.offset_bounds-found-count
-offset_bounds-found-count c = omega (arith, has_room (goal.at.offset_bounds-found-count c).After-broken c.if-broken.true)
+pub offset_bounds-walked-count : goal.offset_bounds-walked-count
+offset_bounds-walked-count c = omega (arith, has_room (goal.at.offset_bounds-walked-count c).After-broken c.if-broken.true)
 
-pub bounds-found-count : goal.bounds-found-count
-bounds-found-count c = has_room (goal.at.bounds-found-count c).After-broken c.if-broken.true
+pub bounds-walked-count : goal.bounds-walked-count
+bounds-walked-count c = has_room (goal.at.bounds-walked-count c).After-broken c.if-broken.true
 
 pub overflow_add-count : goal.overflow_add-count
 overflow_add-count c = omega (arith, has_room (goal.at.overflow_add-count c).After-broken c.if-broken.true)
@@ -131,11 +133,13 @@ loop-i-preserved c =
     elim c.if-broken.branch [
       | then-broken+else-finding-place w ↦ (
         passed_more is_broken _ _ _ (λ broke at. w.if-finding-place.false (ap (λ (f : Finding). f.place) w.finding_at-finding.ensures ∙ at)) inv.0,
-        (λ fs s. rw (w.found-is, w.count-is) (entered_found _ is_broken fs _ _ (has_room judged w.if-broken.true) test w.if-broken.true w.finding_at-finding.ensures (inv.1 fs s))),
+        (λ fs s. rw (w.walked-is, w.count-is) (entered_found _ is_broken fs _ _ (has_room judged w.if-broken.true) test w.if-broken.true w.finding_at-finding.ensures (inv.1 fs s))),
+        rw w.walked-is inv.2,
       )
       | else-broken w ↦ (
         passed_more is_broken _ _ _ (λ broke at. true≢false (sym broke ∙ sym test ∙ w.if-broken.false)) inv.0,
-        (λ fs s. rw (w.found-is, w.count-is) (entered_passed _ is_broken fs _ _ test w.if-broken.false (inv.1 fs s))),
+        (λ fs s. rw (w.walked-is, w.count-is) (entered_passed _ is_broken fs _ _ test w.if-broken.false (inv.1 fs s))),
+        rw w.walked-is inv.2,
       )
     ]
 
@@ -146,12 +150,14 @@ loop-done-preserved c =
     let outer = c.loop-done.invariant in (
       passed_rule _ _ _ _ _ (rw last_place at c.loop-i.invariant.0) outer.0,
       entered_rule _ _ _ _ _ (last_place ∙ sym (places_above _ _ _ c.loop-done.auto.done)) (c.loop-i.invariant.1 _ outer.1),
+      c.loop-i.invariant.2,
     )
 
 pub returns : goal.returns
 returns c =
     let end : c.loop-done.done ≡ c.last-last.result = omega (arith, c.requires.seekable.some, c.before-before.ensures, c.last-last.ensures) in
     let last_is = end ∙ c.last-last.ensures in
-    not_met _ _ _ _ _ c.args.sought c.before-before.result c.beside_of-beside.ensures c.before-before.ensures c.place-place.ensures c.requires.seekable.some
+    rw c.loop-done.invariant.2
+    (not_met _ _ _ _ _ c.args.sought c.before-before.result c.beside_of-beside.ensures c.before-before.ensures c.place-place.ensures c.requires.seekable.some
     (rw last_is at c.loop-done.invariant.0)
-    (rw last_is at c.loop-done.invariant.1)
+    (rw last_is at c.loop-done.invariant.1))
