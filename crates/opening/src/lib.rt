@@ -34,7 +34,7 @@ fn marked(s: &[u8]) -> bool
 }
 
 // The version that the file says.
-fn version(s: &[u8]) -> Version
+pub fn version(s: &[u8]) -> Version
     requires { file_header_size ≤ length s.now }
     ensures { result ≡ version_of s.now }
 {
