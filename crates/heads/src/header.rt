@@ -5,7 +5,7 @@ ghost use Rattle.fields.specs.Trouble.{Clear, checks};
 ghost use Rattle.fields.specs.Refusals.{trouble_of};
 ghost use Rattle.readings.specs.declared.headers.Version.TheVariants.{One};
 ghost use Rattle.identities.specs.Identities.{behind};
-ghost use Rattle.heads.specs.Values.{run_header_size, site, acetone, counts, header_with, header};
+ghost use Rattle.heads.specs.Values.{run_header_size, site, acetone, counts, header};
 ghost use Rattle.heads.specs.Rows.{reading_rows, header_rows, header_trouble};
 
 use fields::numbers;
@@ -86,11 +86,11 @@ impl<'a> Rest<'a> {
     }
 }
 
-// The header, `rest` standing behind its identities.
-fn header_with(t: Record<'_>, rest: Rest<'_>) -> RunHeader
+pub fn header(t: Record<'_>) -> RunHeader
     requires { run_header_size t.version ≤ length t.bytes.now }
-    ensures { result ≡ header_with t.entry.version t.entry.bytes.now rest.entry.bytes.now }
+    ensures { result ≡ header t.entry.version t.entry.bytes.now }
 {
+    let rest = Rest::of(t);
     RunHeader {
         number: numbers::u16_at(t.bytes, 0),
         day: numbers::u16_at(t.bytes, 2),
@@ -108,13 +108,6 @@ fn header_with(t: Record<'_>, rest: Rest<'_>) -> RunHeader
         acetone: rest.acetone(),
         counts: rest.counts(),
     }
-}
-
-pub fn header(t: Record<'_>) -> RunHeader
-    requires { run_header_size t.version ≤ length t.bytes.now }
-    ensures { result ≡ header t.entry.version t.entry.bytes.now }
-{
-    header_with(t, Rest::of(t))
 }
 
 fn reading_rows(h: RunHeader, spare: u8) -> Result<(), BadFile>

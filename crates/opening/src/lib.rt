@@ -27,7 +27,6 @@ pub const RUNS_AT: usize = 7;
 
 // Whether the file begins with "SRJ".
 fn marked(s: &[u8]) -> bool
-    requires { file_header_size ≤ length s.now }
     ensures { result ≡ marked s.now }
 {
     s.starts_with(b"SRJ")
