@@ -32,6 +32,8 @@ pub struct Explanation {
 }
 
 // Why run k of a job without trouble has the finding of that rule at that place, by the ground that its rule goes by there.
+// Laid into its caller, like `explain_run`.
+#[inline(always)]
 fn explanation_by(basis: Ground, s: &[u8], job: Job, k: usize, rule: u8, place: u16) -> Explanation
     requires { ClearRun s.now job k }
     ensures { result ≡ explanation_by basis (version_of s.now) (certificate_of s.now) (certificate_count_of s.now) (run_of s.now k) rule place }
@@ -55,6 +57,8 @@ fn explanation_by(basis: Ground, s: &[u8], job: Job, k: usize, rule: u8, place: 
 }
 
 // Why run k of a job without trouble, counted from 0 in file order, has the finding of that rule at that place, by a figure.
+// Laid into the calls of both forms, as into a single one, so that no explanation is copied on its way.
+#[inline(always)]
 pub fn explain_run(
     s: &[u8],
     job: Job,
