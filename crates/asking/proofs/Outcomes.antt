@@ -4,7 +4,7 @@ use Prim.Native.Nat.{ℕ}
 use mathlib.Core.Path.{◌≡◌, refl, sym, ◌∙◌, ap}
 use mathlib.Core.List.{List}
 use lib.ListN.{length}
-use Rattle.fields.specs.Trouble.{Clear, At}
+use Rattle.fields.specs.Trouble.{At}
 use Rattle.steps.specs.declared.Figure.{Figure}
 use Rattle.figures.specs.Figures.{Supplied}
 use Rattle.opening.specs.Opening.{run_count_of}
@@ -18,7 +18,7 @@ use Rattle.output.specs.Answers.{Answer, Refused}
 use Rattle.printed.specs.Printing.{Printing, unprinted, printing_answer, printing_out, Printed, HandsOver}
 use Rattle.explaining.specs.declared.Explanation.{Explanation}
 use Rattle.explaining.specs.Explaining.{explained_run}
-use Rattle.forms.specs.declared.Form.{Form}
+use Rattle.forms.specs.Forms.{Form}
 use Rattle.explanations.specs.Written.{written}
 use Rattle.asking.specs.Outcomes.{of_explained, explaining, Explains, ExplainsBy}
 
@@ -53,10 +53,6 @@ module _ (form : Form) (fig : Figure) (s : List ℕ) (run rule place : ℕ) (old
       unfolding of_explained
       one_finding ee h = rw (whole, ee) h
 
--- By what is supplied for a figure: its trouble comes first, and without one the figure decides
-module _ (form : Form) (f : Supplied) (s : List ℕ) (run rule place : ℕ) (old : List ℕ) where
-  pub refused_by_figure : {number at : ℕ} → f.trouble ≡ At number at → ExplainsBy form f s run rule place old old (Refused number at)
-  refused_by_figure told = refused old (rw told)
-
-  pub by_good_figure : {out : List ℕ} {a : Answer} → f.trouble ≡ Clear → Explains form f.figure s run rule place old out a → ExplainsBy form f s run rule place old out a
-  by_good_figure clear x = rw clear x
+-- By what is supplied for a figure: its trouble comes first
+pub refused_by_figure : (form : Form) (f : Supplied) (s : List ℕ) (run rule place : ℕ) (old : List ℕ) {number at : ℕ} → f.trouble ≡ At number at → ExplainsBy form f s run rule place old old (Refused number at)
+refused_by_figure form f s run rule place old told = refused old (rw told)

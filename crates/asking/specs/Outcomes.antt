@@ -12,7 +12,7 @@ use Rattle.reduction.specs.Reducing.{run_named}
 use Rattle.output.specs.Answers.{Answer, unknown_run, unknown_finding}
 use Rattle.printed.specs.Printing.{Printing, unprinted, if_fits, unprinted_if_bad, Printed}
 use Rattle.explaining.specs.Explaining.{explained_run}
-use Rattle.forms.specs.declared.Form.{Form}
+use Rattle.forms.specs.Forms.{Form}
 use Rattle.explanations.specs.Written.{written}
 
 -- 15: the run does not have that finding; 9: the output is shorter than its explanation

@@ -21,17 +21,16 @@ use steps::Figure;
 const ROOM: usize = 1024;
 
 // An explanation, by way of a buffer with room for any.
-fn put_by_way(form: Form, e: Explanation, out: &mut [u8]) -> Result<u32, Refusal>
-    ensures { HandsOver (written form e) out.old out.new (answer_told result) }
+fn put_by_way<F: Form>(e: Explanation, out: &mut [u8]) -> Result<u32, Refusal>
+    ensures { HandsOver (written F.form e) out.old out.new (answer_told result) }
 {
     let mut way = [0u8; ROOM];
-    let end = put_explanation(form, &mut way, e);
+    let end = put_explanation::<F>(&mut way, e);
     printed::hand_over(&way[..end], out)
 }
 
 // Explains a finding of the run of that number, by a figure, into an output of any length, or refuses before a byte is written.
-pub fn explain(
-    form: Form,
+pub fn explain<F: Form>(
     figure: Figure,
     job: &[u8],
     run: u16,
@@ -39,17 +38,16 @@ pub fn explain(
     place: u16,
     out: &mut [u8],
 ) -> Result<u32, Refusal>
-    ensures { Explains form figure job.now run rule place out.old out.new (answer_told result) }
+    ensures { Explains F.form figure job.now run rule place out.old out.new (answer_told result) }
 {
     let read = job::read(job)?;
     let k = find_run(read, run).ok_or(Reason::UnknownRun)?;
     let e = explain_run(read, figure, k, rule, place).ok_or(Reason::UnknownFinding)?;
-    put_by_way(form, e, out)
+    put_by_way::<F>(e, out)
 }
 
 // The same by the figure in a file, which is judged before the job is read.
-pub fn explain_by_figure(
-    form: Form,
+pub fn explain_by_figure<F: Form>(
     figure: &[u8],
     job: &[u8],
     run: u16,
@@ -57,7 +55,7 @@ pub fn explain_by_figure(
     place: u16,
     out: &mut [u8],
 ) -> Result<u32, Refusal>
-    ensures { ExplainsBy form (read_figure figure.now) job.now run rule place out.old out.new (answer_told result) }
+    ensures { ExplainsBy F.form (read_figure figure.now) job.now run rule place out.old out.new (answer_told result) }
 {
-    explain(form, figures::read(figure)?, job, run, rule, place, out)
+    explain::<F>(figures::read(figure)?, job, run, rule, place, out)
 }

@@ -7,7 +7,7 @@ use Rattle.output.specs.Bytes.{le}
 use Rattle.layouts.specs.Outcomes.{round_outcome, rectangle_outcome}
 use Rattle.counting.specs.Counting.{count_answer, number_answer}
 use Rattle.figures.specs.Figures.{none_supplied, read_figure}
-use Rattle.forms.specs.declared.Form.TheVariants.{Bytes, Text}
+use Rattle.forms.specs.Forms.{Bytes, Text}
 use Rattle.leverbonnet.specs.Calls.{Reduces, PrintsText, ExplainsFinding, LaysOut}
 
 -- The call's number, the three numbers that it takes, the figure and the job, both outputs before and after, and the answer

@@ -177,6 +177,8 @@ fn sides_of(all: Certificates<'_>, before: Wanted, used: Use) -> Sides
 }
 
 // The days that a rule uses, of a run and the certificates of a file.
+// Laid into its caller, which is laid into the calls of both forms of an explanation.
+#[inline(always)]
 #[tactic(auto, unfolding(crate::specs::Dates::days_of))]
 pub fn days_of(all: Certificates<'_>, header: RunHeader, rule: u8) -> Days
     ensures { result ≡ days_of all.entry.file.version (certificate_of all.entry.file.bytes.now) all.entry.count header rule }

@@ -40,7 +40,7 @@ use Rattle.handing.specs.Handing.{refused, reduced, handed, success, answer_of}
 use Rattle.counting.specs.Counting.{count_of, count_answer, number_at, number_answer}
 use Rattle.runs.specs.Outcomes.{of_run, of_trouble, outcome, unless_bad_figure}
 use Rattle.explaining.specs.Explaining.{explained_run}
-use Rattle.forms.specs.declared.Form.{Form}
+use Rattle.forms.specs.Forms.{Form}
 use Rattle.explanations.specs.Written.{written}
 use Rattle.explanations.proofs.Lengths.{written_short}
 use Rattle.asking.specs.Outcomes.{of_explained, of_named_run, unless_job_trouble, explaining}

@@ -21,7 +21,7 @@ use Rattle.layouts.specs.Outcomes.{round_outcome, rectangle_outcome, layout_answ
 use Rattle.handing.specs.Handing.{success, answer_of}
 use Rattle.counting.specs.Counting.{count_answer, number_answer}
 use Rattle.runs.specs.Outcomes.{outcome_by}
-use Rattle.forms.specs.declared.Form.{Form}
+use Rattle.forms.specs.Forms.{Form}
 use Rattle.asking.specs.Outcomes.{explaining_by}
 use Rattle.leverbonnet.specs.Calls.{Reduces}
 use Rattle.steps.specs.declared.Figure.{Figure}

@@ -30,6 +30,8 @@ pub struct Explanation {
 }
 
 // Why run k of a job without trouble has the finding of that rule at that place, by the ground that its rule goes by there.
+// Laid into its caller, like `explain_run`.
+#[inline(always)]
 fn explanation_by(basis: Ground, read: ClearFile<'_>, k: usize, rule: u8, place: u16) -> Explanation
     requires { k < read.job.runs }
     ensures { result ≡ explanation_by basis (version_of read.entry.file.bytes.now) (certificate_of read.entry.file.bytes.now) (certificate_count_of read.entry.file.bytes.now) (run_of read.entry.file.bytes.now k) rule place }
@@ -53,6 +55,8 @@ fn explanation_by(basis: Ground, read: ClearFile<'_>, k: usize, rule: u8, place:
 }
 
 // Why run k of a job without trouble, counted from 0 in file order, has the finding of that rule at that place, by a figure.
+// Laid into the calls of both forms, as into a single one, so that no explanation is copied on its way.
+#[inline(always)]
 pub fn explain_run(
     read: ClearFile<'_>,
     figure: Figure,

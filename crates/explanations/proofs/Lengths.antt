@@ -13,7 +13,7 @@ use Rattle.dates.specs.declared.Side.TheVariants.{Before, After}
 use Rattle.dates.specs.declared.Sides.{Sides}
 use Rattle.dates.specs.declared.Days.{Days}
 use Rattle.explaining.specs.declared.Explanation.{Explanation}
-use Rattle.forms.specs.declared.Form.{Form}
+use Rattle.forms.specs.Forms.{Form}
 use Rattle.forms.proofs.Lengths.{head_short, condition_short, day_short}
 use Rattle.explanations.specs.Written.{conditions_in, sides_in, days_in, written}
 

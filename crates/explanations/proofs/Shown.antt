@@ -12,8 +12,7 @@ use Rattle.grounds.specs.declared.Ground.{Ground}
 use Rattle.grounds.specs.declared.Ground.TheVariants.{Silent, NoCertificate, Compared, Either, Exactly, SignedBelow}
 use Rattle.grounds.specs.Comparing.{holds, deciding}
 use Rattle.grounds.specs.Showing.{Condition, Judged, two_numbers, a_quotient, two_signed, ◌broken_if◌, conditions, broken_of, shown}
-use Rattle.forms.specs.declared.Form.{Form}
-use Rattle.forms.specs.Forms.{condition_in}
+use Rattle.forms.specs.Forms.{Form, condition_in}
 use Rattle.explanations.specs.Written.{conditions_in}
 
 module _ (form : Form) (rule : ℕ) (round : Bool) where

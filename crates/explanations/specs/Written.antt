@@ -6,8 +6,7 @@ use Rattle.dates.specs.declared.Side.TheVariants.{Before, After}
 use Rattle.dates.specs.declared.Sides.{Sides}
 use Rattle.dates.specs.declared.Days.{Days}
 use Rattle.explaining.specs.declared.Explanation.{Explanation}
-use Rattle.forms.specs.declared.Form.{Form}
-use Rattle.forms.specs.Forms.{head_in, condition_in, day_in}
+use Rattle.forms.specs.Forms.{Form, head_in, condition_in, day_in}
 
 -- conditions, one after another
 unfoldable pub conditions_in : Form → ℕ → Bool → List Condition → List ℕ

@@ -10,9 +10,7 @@ use Rattle.dates.proofs.Entries.{one_a_side}
 use Rattle.text.proofs.Lengths.{any_finding_short}
 use Rattle.reasons.proofs.Lengths.{condition_bytes_length, day_bytes_length, condition_text_short, day_text_short}
 use Rattle.explaining.specs.declared.Explanation.{Explanation}
-use Rattle.forms.specs.declared.Form.{Form}
-use Rattle.forms.specs.declared.Form.TheVariants.{Bytes, Text}
-use Rattle.forms.specs.Forms.{head_in, condition_in, day_in}
+use Rattle.forms.specs.Forms.{Form, Bytes, Text, head_in, condition_in, day_in}
 
 pub head_short : (form : Form) (e : Explanation) → length (head_in form e) ≤ 48
 unfolding head_in

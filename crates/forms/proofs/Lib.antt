@@ -1,3 +1,3 @@
 -- The laws of the parts of an explanation in a form.
-pub mod Unused
+pub mod Days
 pub mod Lengths

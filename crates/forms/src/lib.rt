@@ -3,10 +3,9 @@
 
 #![tactic(auto)]
 
-ghost use Rattle.dates.specs.declared.Day.TheVariants.{On, NoneSoDated};
 ghost use Rattle.grounds.specs.Showing.{two_numbers, a_quotient, two_signed};
 ghost use Rattle.characters.specs.Writing.{Room, Wrote};
-ghost use Rattle.forms.specs.Forms.{head_in, condition_in, day_in};
+ghost use Rattle.forms.specs.Forms.{Form, Bytes, Text, nearest, head_in, condition_in, day_in};
 
 use characters::Writer;
 use dates::Side;
@@ -14,89 +13,92 @@ use explaining::Explanation;
 use grounds::comparison::{Comparison, ExactComparison, Way};
 use reasons::{bytes, texts};
 use text::runs::put_finding;
+use wording::Subject;
 
-// How an explanation is handed over.
-#[derive(Clone, Copy)]
-pub enum Form {
-    Bytes,
-    Text,
+// How an explanation is handed over: as bytes or as text, each of its parts by a function.
+pub trait Form {
+    // Its case in the definitions.
+    ghost form: { Form };
+
+    // How many conditions and how many certificate days follow, or the finding's line.
+    fn put_head(to: &mut Writer<'_>, e: Explanation)
+        requires { Room to.old (head_in form e) }
+        ensures { Wrote to.old (head_in form e) to.new };
+
+    // A condition of two whole numbers.
+    fn put_numbers(to: &mut Writer<'_>, subject: Subject, which: u8, c: Comparison)
+        requires { Room to.old (condition_in form subject.rule subject.round (two_numbers which c)) }
+        ensures { Wrote to.old (condition_in form subject.rule subject.round (two_numbers which c)) to.new };
+
+    // A condition of a quotient with its remainder.
+    fn put_exactly(to: &mut Writer<'_>, subject: Subject, c: ExactComparison)
+        requires { Room to.old (condition_in form subject.rule subject.round (a_quotient c)) }
+        ensures { Wrote to.old (condition_in form subject.rule subject.round (a_quotient c)) to.new };
+
+    // A condition of two signed numbers, the left one below the right one.
+    fn put_below(to: &mut Writer<'_>, subject: Subject, left: i64, right: i64)
+        requires { Room to.old (condition_in form subject.rule subject.round (two_signed left right)) }
+        ensures { Wrote to.old (condition_in form subject.rule subject.round (two_signed left right)) to.new };
+
+    // A certificate day that is used: the day of the nearest certificate, or that none is so dated.
+    fn put_day(to: &mut Writer<'_>, kind: u8, side: Side, day: Option<u16>)
+        requires { Room to.old (day_in form kind side (nearest day)) }
+        ensures { Wrote to.old (day_in form kind side (nearest day)) to.new };
 }
 
-// How many conditions and how many certificate days follow, or the finding's line.
-#[tactic(auto, unfolding(crate::specs::Forms::head_in))]
-pub fn put_head(form: Form, to: &mut Writer<'_>, e: Explanation)
-    requires { Room to.old (head_in form e) }
-    ensures { Wrote to.old (head_in form e) to.new }
-{
-    match form {
-        Form::Bytes => bytes::put_pair(to, e.basis.shown(), e.days.entries()),
-        Form::Text => put_finding(to, e.finding),
+// Counts and numbers of fixed width.
+pub struct Bytes;
+
+#[tactic(auto, using(crate::proofs::Days::as_bytes), unfolding(crate::specs::Forms::head_in, crate::specs::Forms::condition_in, crate::specs::Forms::day_in, reasons::specs::Bytes::condition_bytes))]
+impl Form for Bytes {
+    ghost form = { Bytes };
+
+    fn put_head(to: &mut Writer<'_>, e: Explanation) {
+        bytes::put_pair(to, e.basis.shown(), e.days.entries());
+    }
+
+    fn put_numbers(to: &mut Writer<'_>, _subject: Subject, which: u8, c: Comparison) {
+        bytes::put_condition(to, which, c.way, c.left, c.right, 0, 0);
+    }
+
+    fn put_exactly(to: &mut Writer<'_>, _subject: Subject, c: ExactComparison) {
+        bytes::put_condition(to, 1, c.way, c.quotient, c.limit, c.remainder, 0);
+    }
+
+    fn put_below(to: &mut Writer<'_>, _subject: Subject, left: i64, right: i64) {
+        let (left, right) = (left.cast_unsigned(), right.cast_unsigned());
+        bytes::put_condition(to, 1, Way::Below, left, right, 0, 0);
+    }
+
+    fn put_day(to: &mut Writer<'_>, kind: u8, side: Side, day: Option<u16>) {
+        bytes::put_day(to, kind, side, day);
     }
 }
 
-// A condition of two whole numbers.
-pub fn put_numbers(form: Form, to: &mut Writer<'_>, rule: u8, round: bool, which: u8, c: Comparison)
-    requires { Room to.old (condition_in form rule round (two_numbers which c)) }
-    ensures { Wrote to.old (condition_in form rule round (two_numbers which c)) to.new }
-{
-    match form {
-        Form::Bytes => bytes::put_condition(to, which, c.way, c.left, c.right, 0, 0),
-        Form::Text => texts::put_numbers(to, rule, round, which, c),
-    }
-}
+// Lines of words.
+pub struct Text;
 
-// A condition of a quotient with its remainder.
-#[tactic(auto, unfolding(crate::specs::Forms::condition_in, reasons::specs::Bytes::condition_bytes))]
-pub fn put_exactly(form: Form, to: &mut Writer<'_>, rule: u8, round: bool, c: ExactComparison)
-    requires { Room to.old (condition_in form rule round (a_quotient c)) }
-    ensures { Wrote to.old (condition_in form rule round (a_quotient c)) to.new }
-{
-    match form {
-        Form::Bytes => bytes::put_condition(to, 1, c.way, c.quotient, c.limit, c.remainder, 0),
-        Form::Text => texts::put_exactly(to, rule, round, c),
-    }
-}
+#[tactic(auto, using(crate::proofs::Days::as_text), unfolding(crate::specs::Forms::head_in, crate::specs::Forms::condition_in, crate::specs::Forms::day_in))]
+impl Form for Text {
+    ghost form = { Text };
 
-// A condition of two signed numbers.
-#[tactic(auto, unfolding(crate::specs::Forms::condition_in, reasons::specs::Bytes::condition_bytes))]
-pub fn put_below(form: Form, to: &mut Writer<'_>, rule: u8, round: bool, left: i64, right: i64)
-    requires { Room to.old (condition_in form rule round (two_signed left right)) }
-    ensures { Wrote to.old (condition_in form rule round (two_signed left right)) to.new }
-{
-    match form {
-        Form::Bytes => bytes::put_condition(
-            to,
-            1,
-            Way::Below,
-            left.cast_unsigned(),
-            right.cast_unsigned(),
-            0,
-            0,
-        ),
-        Form::Text => texts::put_below(to, rule, round, left, right),
+    fn put_head(to: &mut Writer<'_>, e: Explanation) {
+        put_finding(to, e.finding);
     }
-}
 
-// The day of the nearest certificate.
-#[tactic(auto, unfolding(crate::specs::Forms::day_in, reasons::specs::Bytes::day_bytes))]
-pub fn put_dated(form: Form, to: &mut Writer<'_>, kind: u8, side: Side, day: u16)
-    requires { Room to.old (day_in form kind side (On day)) }
-    ensures { Wrote to.old (day_in form kind side (On day)) to.new }
-{
-    match form {
-        Form::Bytes => bytes::put_day(to, kind, side, Some(day)),
-        Form::Text => texts::put_dated(to, kind, side, day),
+    fn put_numbers(to: &mut Writer<'_>, subject: Subject, which: u8, c: Comparison) {
+        texts::put_numbers(to, subject, which, c);
     }
-}
 
-// That no certificate is so dated.
-#[tactic(auto, unfolding(crate::specs::Forms::day_in, reasons::specs::Bytes::day_bytes))]
-pub fn put_undated(form: Form, to: &mut Writer<'_>, kind: u8, side: Side)
-    requires { Room to.old (day_in form kind side NoneSoDated) }
-    ensures { Wrote to.old (day_in form kind side NoneSoDated) to.new }
-{
-    match form {
-        Form::Bytes => bytes::put_day(to, kind, side, None),
-        Form::Text => texts::put_undated(to, kind, side),
+    fn put_exactly(to: &mut Writer<'_>, subject: Subject, c: ExactComparison) {
+        texts::put_exactly(to, subject, c);
+    }
+
+    fn put_below(to: &mut Writer<'_>, subject: Subject, left: i64, right: i64) {
+        texts::put_below(to, subject, left, right);
+    }
+
+    fn put_day(to: &mut Writer<'_>, kind: u8, side: Side, day: Option<u16>) {
+        texts::put_day(to, kind, side, day);
     }
 }

@@ -6,7 +6,7 @@ use Rattle.printed.specs.Printing.{printing_by, printing_answer, printing_out}
 use Rattle.layouts.specs.Outcomes.{LayoutOutcome, layout_answer, layout_out}
 use Rattle.handing.specs.Handing.{answer_of, lines_after, findings_after}
 use Rattle.runs.specs.Outcomes.{outcome_by}
-use Rattle.forms.specs.declared.Form.{Form}
+use Rattle.forms.specs.Forms.{Form}
 use Rattle.asking.specs.Outcomes.{explaining_by}
 
 -- leverbonnet_reduce, and the same by a figure: the answer, and every byte of both buffers

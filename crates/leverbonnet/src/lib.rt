@@ -9,11 +9,10 @@ ghost use Rattle.output.specs.Answers.{packed};
 ghost use Rattle.layouts.specs.Outcomes.{round_outcome, rectangle_outcome};
 ghost use Rattle.counting.specs.Counting.{count_answer, number_answer};
 ghost use Rattle.figures.specs.Figures.{none_supplied, read_figure};
-ghost use Rattle.forms.specs.declared.Form.TheVariants.{Bytes, Text};
+ghost use Rattle.forms.specs.Forms.{Bytes, Text};
 ghost use Rattle.leverbonnet.specs.Calls.{Reduces, PrintsText, ExplainsFinding, LaysOut};
 
 use asking::{explain, explain_by_figure};
-use forms::Form;
 use output::packed;
 
 // Works the run of that number: 180 bytes of lines, 4 bytes a finding.
@@ -68,7 +67,7 @@ pub fn leverbonnet_sheet_text_by_figure(figure: &[u8], job: &[u8], out: &mut [u8
 pub fn leverbonnet_explain(job: &[u8], run: u16, rule: u16, place: u16, out: &mut [u8]) -> u64
     ensures { ExplainsFinding Bytes none_supplied job.now run rule place out.old out.new result }
 {
-    packed(explain(Form::Bytes, steps::none(), job, run, rule, place, out))
+    packed(explain::<forms::Bytes>(steps::none(), job, run, rule, place, out))
 }
 
 // The same by a figure, which is judged before the job is read.
@@ -82,14 +81,14 @@ pub fn leverbonnet_explain_by_figure(
 ) -> u64
     ensures { ExplainsFinding Bytes (read_figure figure.now) job.now run rule place out.old out.new result }
 {
-    packed(explain_by_figure(Form::Bytes, figure, job, run, rule, place, out))
+    packed(explain_by_figure::<forms::Bytes>(figure, job, run, rule, place, out))
 }
 
 // The same as characters.
 pub fn leverbonnet_explain_text(job: &[u8], run: u16, rule: u16, place: u16, out: &mut [u8]) -> u64
     ensures { ExplainsFinding Text none_supplied job.now run rule place out.old out.new result }
 {
-    packed(explain(Form::Text, steps::none(), job, run, rule, place, out))
+    packed(explain::<forms::Text>(steps::none(), job, run, rule, place, out))
 }
 
 // The same by a figure, which is judged before the job is read.
@@ -103,7 +102,7 @@ pub fn leverbonnet_explain_text_by_figure(
 ) -> u64
     ensures { ExplainsFinding Text (read_figure figure.now) job.now run rule place out.old out.new result }
 {
-    packed(explain_by_figure(Form::Text, figure, job, run, rule, place, out))
+    packed(explain_by_figure::<forms::Text>(figure, job, run, rule, place, out))
 }
 
 // Lays out a round stack: points on the diameter, diameter in 0.1 in, nozzle in 0.001 in; 4 bytes a distance.

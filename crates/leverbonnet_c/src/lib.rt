@@ -7,7 +7,7 @@ ghost use Rattle.output.specs.Answers.{packed};
 ghost use Rattle.layouts.specs.Outcomes.{round_outcome, rectangle_outcome};
 ghost use Rattle.counting.specs.Counting.{count_answer, number_answer};
 ghost use Rattle.figures.specs.Figures.{none_supplied, read_figure};
-ghost use Rattle.forms.specs.declared.Form.TheVariants.{Bytes, Text};
+ghost use Rattle.forms.specs.Forms.{Bytes, Text};
 ghost use Rattle.leverbonnet.specs.Calls.{Reduces, PrintsText, ExplainsFinding, LaysOut};
 
 // Works the run of that number: 180 bytes of lines, 4 bytes a finding.

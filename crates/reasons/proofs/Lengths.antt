@@ -22,7 +22,7 @@ use Rattle.dates.specs.declared.Day.TheVariants.{Unused, On, NoneSoDated}
 use Rattle.dates.specs.Dates.{entries_on}
 use Rattle.wording.proofs.Lengths.{words_short}
 use Rattle.reasons.specs.Bytes.{condition_bytes, found_bytes, day_bytes}
-use Rattle.reasons.specs.Text.{way_text, number_text, meaning_text, condition_text, kind_text, side_text, day_text}
+use Rattle.reasons.specs.Text.{way_text, number_text, meaning_text, condition_text, kind_text, side_text, found_text, dated_text, day_text}
 
 -- As bytes
 
@@ -70,7 +70,7 @@ side_short Before = omega arith
 side_short After = omega arith
 
 pub day_text_short : (kind : ℕ) (side : Side) (d : Day) → length (day_text kind side d) ≤ 49
-unfolding day_text spelled
+unfolding day_text dated_text found_text spelled
 day_text_short kind side Unused = omega arith
 day_text_short kind side (On day) = simp length-append (omega (arith, kind_short kind, side_short side, decimal_short day))
 day_text_short kind side NoneSoDated = simp length-append (omega (arith, kind_short kind, side_short side))

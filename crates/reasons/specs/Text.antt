@@ -1,5 +1,5 @@
 -- A condition and a certificate day as text (docs/RULES.md, A finding explained).
-use Rattle.std.specs.Prelude.{ℕ, Bool, true, false, cond, List, [], ◌++◌, eqb, ℤ}
+use Rattle.std.specs.Prelude.{Option, Some, None, ℕ, Bool, true, false, cond, List, [], ◌++◌, eqb, ℤ}
 use Rattle.readings.specs.Ranges.{meter, pitot}
 use Rattle.characters.specs.Numbers.{decimal, signed_decimal}
 use Rattle.characters.specs.Words.{spelled}
@@ -44,8 +44,17 @@ unfoldable pub side_text : Side → List ℕ
 side_text Before = spelled "BEFORE "
 side_text After = spelled "AFTER "
 
--- a certificate day: kind, side, and the day or that there is none; nothing where none is used
+-- the day found, or that there is none
+unfoldable pub found_text : Option ℕ → List ℕ
+found_text None = spelled "NONE"
+found_text (Some day) = decimal day
+
+-- a certificate day that is used: kind, side, and the day or that there is none
+unfoldable pub dated_text : ℕ → Side → Option ℕ → List ℕ
+dated_text kind side day = spelled "  CERTIFICATE " ++ kind_text kind ++ side_text side ++ found_text day ++ newline
+
+-- a certificate day; nothing where none is used
 unfoldable pub day_text : ℕ → Side → Day → List ℕ
 day_text kind side Unused = []
-day_text kind side (On day) = spelled "  CERTIFICATE " ++ kind_text kind ++ side_text side ++ decimal day ++ newline
-day_text kind side NoneSoDated = spelled "  CERTIFICATE " ++ kind_text kind ++ side_text side ++ spelled "NONE" ++ newline
+day_text kind side (On day) = dated_text kind side (Some day)
+day_text kind side NoneSoDated = dated_text kind side None

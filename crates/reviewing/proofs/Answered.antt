@@ -21,7 +21,7 @@ use Rattle.findings.specs.Listing.{HasFinding}
 use Rattle.output.specs.Answers.{packed}
 use Rattle.printed.specs.Printing.{Printing, unprinted, printed, if_fits, unprinted_if_bad, printing_answer, printing_out}
 use Rattle.explaining.specs.Explaining.{explanation, explained, explained_run}
-use Rattle.forms.specs.declared.Form.{Form}
+use Rattle.forms.specs.Forms.{Form}
 use Rattle.explanations.specs.Written.{written}
 use Rattle.asking.specs.Outcomes.{of_explained, of_named_run, unless_job_trouble, explaining, explaining_by}
 use Rattle.demands.specs.FigureFile.{Lent, supplied, figure_in, GoodLent}

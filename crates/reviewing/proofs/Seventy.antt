@@ -41,8 +41,7 @@ use Rattle.explaining.specs.declared.Explanation.{Explanation}
 use Rattle.findings.specs.Listing.{part_of, beside_of, lines_for}
 use Rattle.findings.specs.Seeking.{index_of, speaks_of, ground_at}
 use Rattle.explaining.specs.Explaining.{ground_for, explanation}
-use Rattle.forms.specs.declared.Form.TheVariants.{Bytes}
-use Rattle.forms.specs.Forms.{head_in, condition_in, day_in}
+use Rattle.forms.specs.Forms.{Bytes, head_in, condition_in, day_in}
 use Rattle.explanations.specs.Written.{conditions_in, sides_in, days_in, written}
 use Rattle.explanations.proofs.Lengths.{shown_few, at_most_two}
 use Rattle.reviewing.specs.Numbers.{SeventyBytes}

@@ -18,7 +18,7 @@ use Rattle.output.specs.Answers.{packed}
 use Rattle.printed.specs.Printing.{unprinted_if_bad, printing_answer, printing_out}
 use Rattle.dates.specs.Dates.{days_of}
 use Rattle.explaining.specs.Explaining.{explanation, explained, explained_run}
-use Rattle.forms.specs.declared.Form.{Form}
+use Rattle.forms.specs.Forms.{Form}
 use Rattle.asking.specs.Outcomes.{of_explained, explaining}
 use Rattle.leverbonnet.specs.Calls.{ExplainsFinding}
 use Rattle.demands.specs.FigureFile.{Lent, supplied, figure_in}

@@ -10,7 +10,7 @@ use Rattle.output.specs.Answers.{Answer, Done, Refused, packed}
 use Rattle.output.specs.Splice.{spliced}
 use Rattle.explaining.specs.declared.Explanation.{Explanation}
 use Rattle.explaining.specs.Explaining.{explanation}
-use Rattle.forms.specs.declared.Form.{Form}
+use Rattle.forms.specs.Forms.{Form}
 use Rattle.explanations.specs.Written.{written}
 use Rattle.leverbonnet.specs.Calls.{ExplainsFinding}
 use Rattle.demands.specs.FigureFile.{Lent, file, supplied, figure_in, GoodLent}

@@ -7,7 +7,7 @@ use Rattle.records.specs.declared.Run.{Run}
 use Rattle.steps.specs.declared.Figure.{Figure}
 use Rattle.opening.specs.Opening.{run_count_of}
 use Rattle.explaining.specs.Explaining.{explanation}
-use Rattle.forms.specs.declared.Form.TheVariants.{Bytes}
+use Rattle.forms.specs.Forms.{Bytes}
 use Rattle.explanations.specs.Written.{written}
 use Rattle.grounds.specs.Showing.{Condition, shown}
 use Rattle.demands.specs.FigureFile.{Lent, figure_in, GoodLent}

@@ -8,6 +8,13 @@ ghost use Rattle.wording.specs.Wording.{words_of};
 
 use characters::Writer;
 
+// What a condition speaks of: its rule, and whether the stack is round.
+#[derive(Clone, Copy)]
+pub struct Subject {
+    pub rule: u8,
+    pub round: bool,
+}
+
 // Of two texts the first where the stack is round, the second where it is rectangular.
 fn put_by_shape(to: &mut Writer<'_>, round: bool, in_round: &[u8], in_rectangular: &[u8])
     requires { Room to.old (cond round in_round.now in_rectangular.now) }
@@ -65,11 +72,12 @@ fn put_points(to: &mut Writer<'_>, which: u8, round: bool)
 }
 
 // What the left number and the right one are, of a rule's first condition or its second, in a round stack or a rectangular one.
-pub fn put_words(to: &mut Writer<'_>, rule: u8, which: u8, round: bool)
-    requires { Room to.old (words_of rule which round) }
-    ensures { Wrote to.old (words_of rule which round) to.new }
+pub fn put_words(to: &mut Writer<'_>, subject: Subject, which: u8)
+    requires { Room to.old (words_of subject.rule which subject.round) }
+    ensures { Wrote to.old (words_of subject.rule which subject.round) to.new }
 {
-    match rule {
+    let round = subject.round;
+    match subject.rule {
         5 => to.word(
             b"20 x the difference of the meter's factors; its factor before the run (factors in 0.0001)",
         ),

@@ -137,5 +137,5 @@ returns-in-20 c = wrote_of _ _ c.in-20.is c.word-in-20.ensures
 pub returns-in_default : goal.returns-in_default
 unfolding words_of sayings
 returns-in_default c =
-    let args = c.args in
-    rw (no_row _ (sayings args.which args.round) args.rule c.in_default.in_default-own.rest) (wrote_none _)
+    let subject = c.args.subject in
+    rw (no_row _ (sayings c.args.which subject.round) subject.rule c.in_default.in_default-own.rest) (wrote_none _)

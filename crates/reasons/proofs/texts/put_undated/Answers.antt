@@ -1,9 +1,0 @@
--- Five parts, one after another.
-use Rattle.characters.specs.Words.{spelled}
-use Rattle.reasons.specs.Text.{day_text}
-use Rattle.characters.proofs.Texts.{wrote_five}
-use Rattle.reasons.proofs.texts.put_undated.Goals as goal
-
-pub returns : goal.returns
-unfolding day_text spelled
-returns c = wrote_five _ _ _ _ _ c.requires c.word.ensures c.put_kind.ensures c.put_side.ensures c.word-2.ensures c.word-3.ensures
