@@ -47,7 +47,10 @@ pub fn nth(f: JobFile<'_>, k: usize) -> Certificate
     requires { certificate_place f.version k + certificate_size f.version ≤ length f.bytes.now }
     ensures { result ≡ certificate_of f.entry.bytes.now k }
 {
-    certificate(Record::at(f, place(f.version, k)))
+    certificate(Record {
+        bytes: &f.bytes[place(f.version, k)..],
+        version: f.version,
+    })
 }
 
 // So many certificates of a job's file, from the first on, all of which lie within it.

@@ -46,7 +46,7 @@ pub fn packed(answer: Result<u32, Refusal>) -> u64
 {
     match answer {
         Ok(value) => value as u64,
-        Err(r) => r.why.number() as u64 * 4_294_967_296 + r.place as u64,
+        Err(Refusal { why, place }) => why.number() as u64 * 4_294_967_296 + place as u64,
     }
 }
 
