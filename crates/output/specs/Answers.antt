@@ -1,6 +1,5 @@
 -- A call's refusals, and its answer as one 64-bit number.
-use Rattle.std.specs.Prelude.{ℕ, ◌+◌, ◌*◌, Result, Ok, Err}
-use Rattle.refusals.specs.Reasons.{reason_number}
+use Rattle.std.specs.Prelude.{ℕ, ◌+◌, ◌*◌, ◌/◌, ◌%◌, Result, Ok, Err}
 use Rattle.output.specs.declared.Refusal.{Refusal}
 
 -- what a call answers: done, with a number; or refused, with its number and the place
@@ -8,10 +7,10 @@ pub data Answer : Type 0 where
   Done : ℕ → Answer
   Refused : ℕ → ℕ → Answer
 
--- the answer that the code tells; it tells what the code answers, since no two reasons have one number (reason_apart of refusals)
+-- the answer that the code tells: of a refusal, its number in the high 32 bits and its place in the low ones
 abbrev pub answer_told : Result ℕ Refusal → Answer
 answer_told (Ok value) = Done value
-answer_told (Err r) = Refused (reason_number r.why) r.place
+answer_told (Err r) = Refused (r.told / 4294967296) (r.told % 4294967296)
 
 -- The refusal numbers of a call, behind those of a file
 

@@ -4,7 +4,8 @@
 
 #![tactic(auto)]
 
-ghost use Rattle.std.specs.Prelude.{◌≡◌, [], ◌∷◌, ◌+◌, ◌<◌, ◌≤◌, length, min};
+ghost use Rattle.std.specs.Prelude.{◌≡◌, [], ◌∷◌, ◌+◌, ◌*◌, ◌<◌, ◌≤◌, length, min};
+ghost use Rattle.refusals.specs.Reasons.{reason_number};
 ghost use Rattle.output.specs.Answers.{answer_told, packed};
 ghost use Rattle.output.specs.Bytes.{le};
 ghost use Rattle.output.specs.Splice.{spliced};
@@ -12,30 +13,34 @@ ghost use Rattle.output.specs.Splice.{spliced};
 use fields::trouble::BadFile;
 use refusals::Reason;
 
-// Why a call is refused, and the place that this is about: a byte of a file, or 0 where it is about none.
+// A refusal as the caller sees it: its number in the high 32 bits, and in the low ones the place that it is about, a byte of a file, or 0
+// where it is about none. One number, so that no answer has to be put together from parts.
 #[derive(Clone, Copy)]
 pub struct Refusal {
-    pub why: Reason,
-    pub place: u32,
+    pub told: u64,
 }
+
+// What the high 32 bits count.
+const HIGH: u64 = 4_294_967_296;
 
 // A refusal that is about no place.
 impl From<Reason> for Refusal {
-    ghost from_gives = { λ why r. r ≡ record { why = why; place = 0 } };
+    ghost from_gives = { λ why r. r ≡ record { told = reason_number why * 4294967296 } };
 
     fn from(why: Reason) -> Refusal {
-        Refusal { why, place: 0 }
+        Refusal {
+            told: why.number() as u64 * HIGH,
+        }
     }
 }
 
 // A refusal of a file. No file that is read is so long that a place does not fit.
 impl From<BadFile> for Refusal {
-    ghost from_gives = { λ e r. r ≡ record { why = e.why; place = min e.place 4294967295 } };
+    ghost from_gives = { λ e r. r ≡ record { told = reason_number e.why * 4294967296 + min e.place 4294967295 } };
 
     fn from(e: BadFile) -> Refusal {
         Refusal {
-            why: e.why,
-            place: e.place.min(u32::MAX as usize) as u32,
+            told: e.why.number() as u64 * HIGH + e.place.min(u32::MAX as usize) as u64,
         }
     }
 }
@@ -46,7 +51,7 @@ pub fn packed(answer: Result<u32, Refusal>) -> u64
 {
     match answer {
         Ok(value) => value as u64,
-        Err(Refusal { why, place }) => why.number() as u64 * 4_294_967_296 + place as u64,
+        Err(r) => r.told,
     }
 }
 
