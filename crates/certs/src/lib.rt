@@ -12,20 +12,18 @@ use heads::certificate::Certificates;
 use readings::certificates::CertificateKind;
 use records::{Certificate, RunHeader};
 
-// Of the certificates of a file, the one wanted that is dated nearest the day. The best so far is kept as its index and
-// its day.
+// Of the certificates of a file, the one wanted that is dated nearest the day.
 pub fn choose(all: Certificates<'_>, wanted: Wanted) -> Option<Certificate>
     ensures { result ≡ chosen wanted.after wanted.kind wanted.identity wanted.day (certificate_of all.entry.file.bytes.now) all.entry.count }
 {
-    let mut best: Option<(usize, u16)> = None;
+    let mut best: Option<Certificate> = None;
     for i in 0..all.count {
         let c = all.nth(i);
-        if wanted.replaces(c, best.map(|(_, day)| day)) {
-            best = Some((i, c.day));
+        if wanted.replaces(c, best.map(|b| b.day)) {
+            best = Some(c);
         }
     }
-    let (i, _) = best?;
-    Some(all.nth(i))
+    best
 }
 
 // The certificates of a run among those of a file, each found through `choose`.

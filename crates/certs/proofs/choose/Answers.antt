@@ -1,14 +1,15 @@
 -- `choose` is `chosen`. The invariant: the best so far is the choice among the certificates passed.
-use mathlib.Core.Path.{◌≡◌, ◌∙◌, ap}
+use mathlib.Core.Path.{◌≡◌, refl, ◌∙◌, ap}
 use native.Mathlib.Omega.{arith}
 use borrow.Author.Rules.{rules}
-use Rattle.std.specs.Prelude.{Some}
-use Rattle.certs.proofs.Best.{day_of, mapped, found, best_none, best_replaced, best_kept}
+use Rattle.choosing.specs.Choosing.{chosen}
+use Rattle.certs.proofs.Best.{day_of, mapped, best_replaced, best_kept}
 use Rattle.certs.proofs.choose.Goals as goal
 use Rattle.certs.proofs.choose.Goals.{then-replaces, else-replaces}
 
 pub loop-i-init : goal.loop-i-init
-loop-i-init c = best_none _ _ _ _ _
+unfolding chosen
+loop-i-init c = refl
 
 pub loop-i-preserved : goal.loop-i-preserved
 loop-i-preserved c =
@@ -19,16 +20,7 @@ loop-i-preserved c =
       | else-replaces w ↦ rw w.best-is (best_kept _ _ _ _ _ _ so_far days c.nth-c.ensures c.replaces.ensures w.if-replaces.false)
     ]
 
-pub nth-requires : goal.nth-requires
-nth-requires c =
-    omega (arith, (c.loop-i.invariant.told _ c.in_ok-i.was).0)
-
-pub returns-in_err-i : goal.returns-in_err-i
-returns-in_err-i c =
-    let end : c.loop-i.i ≡ c.args.all.count = omega arith in
-    c.from_residual.ensures ∙ found _ _ _ _ _ c.in_err-i.was end c.loop-i.invariant.is
-
 pub returns : goal.returns
 returns c =
     let end : c.loop-i.i ≡ c.args.all.count = omega arith in
-    ap Some c.nth.ensures ∙ found _ _ _ _ _ c.in_ok-i.was end c.loop-i.invariant.is
+    c.loop-i.invariant ∙ ap (chosen _ _ _ _ _) end
