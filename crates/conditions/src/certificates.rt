@@ -15,10 +15,10 @@ const GREATEST_SPREAD: u64 = 4;
 pub fn missing(found: Option<Certificate>) -> Ground
     ensures { result ≡ missing found }
 {
-    let Some(_) = found else {
-        return Ground::NoCertificate;
-    };
-    Ground::Silent
+    match found {
+        Some(_) => Ground::Silent,
+        None => Ground::NoCertificate,
+    }
 }
 
 // Rule 5: the factor moved, where both certificates are there.

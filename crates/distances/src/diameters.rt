@@ -53,7 +53,7 @@ fn kept(margin: u64, width: u64, distance: u64) -> u64
     requires { 2 * margin ≤ width }
     ensures { result ≡ kept margin width distance }
 {
-    distance.max(margin).min(width - margin)
+    distance.clamp(margin, width - margin)
 }
 
 // The distance of point i of n from the near wall, 0.001 in. The stack is 100 * diameter wide.

@@ -53,9 +53,7 @@ pub fn factor(v: Version, before: u16, after: u16) -> u16
 pub fn factor_of(v: Version, chosen: Chosen) -> Option<u64>
     ensures { result ≡ factor_of v chosen }
 {
-    let Some(b) = chosen.before else {
-        return None;
-    };
+    let b = chosen.before?;
     let Some(a) = chosen.after else {
         return Some(b.first as u64);
     };
@@ -67,10 +65,7 @@ pub fn factor_of(v: Version, chosen: Chosen) -> Option<u64>
 pub fn coefficient_of(chosen: Chosen) -> Option<u64>
     ensures { result ≡ coefficient_of chosen }
 {
-    let Some(p) = chosen.pitot else {
-        return None;
-    };
-    Some(p.first as u64)
+    Some(chosen.pitot?.first as u64)
 }
 
 // The three diameters of the nozzle's certificate.
@@ -78,9 +73,7 @@ pub fn coefficient_of(chosen: Chosen) -> Option<u64>
 pub fn diameters_of(chosen: Chosen) -> Option<Diameters>
     ensures { result ≡ diameters_of chosen }
 {
-    let Some(n) = chosen.nozzle else {
-        return None;
-    };
+    let n = chosen.nozzle?;
     Some(Diameters {
         first: n.first as u64,
         second: n.second as u64,

@@ -99,7 +99,7 @@ pub fn next_allowed(shape: u8, n: u8) -> u64
     ensures { result ≡ next_allowed shape n }
 {
     if shape == Shape::ROUND {
-        (n as u64 + 3) / 4 * 4
+        (n as u64).next_multiple_of(4)
     } else {
         GridPoints::next(n as u64)
     }

@@ -27,34 +27,26 @@ pub struct Layout {
 }
 
 // Whether a round layout is inside its ranges: points on the diameter, diameter in 0.1 in, nozzle in 0.001 in.
+#[tactic(auto, unfolding(distances::specs::Round::round_fits))]
 pub fn round_fits(points: u16, diameter: u16, nozzle: u16) -> bool
     ensures { result ≡ round_fits points diameter nozzle }
 {
-    if !DiameterPoints::check(points) {
-        return false;
-    }
-    if !LayoutDiameter::check(diameter) {
-        return false;
-    }
-    NozzleDiameter::check(nozzle)
+    DiameterPoints::check(points)
+        && LayoutDiameter::check(diameter)
+        && NozzleDiameter::check(nozzle)
 }
 
 // Whether a rectangular layout is inside its ranges, sides in 0.1 in. Its diameter 2LW/(L+W) is compared without rounding.
+#[tactic(auto, unfolding(distances::specs::Rectangle::rectangle_fits, distances::specs::Rectangle::wide_enough))]
 pub fn rectangle_fits(points: u16, first: u16, second: u16) -> bool
     ensures { result ≡ rectangle_fits points first second }
 {
-    if !GridPoints::check(points) {
-        return false;
-    }
-    if !Side::check(first) {
-        return false;
-    }
-    if !Side::check(second) {
-        return false;
-    }
     let length = first as u64;
     let width = second as u64;
-    LayoutDiameter::LEAST as u64 * (length + width) <= 2 * length * width
+    GridPoints::check(points)
+        && Side::check(first)
+        && Side::check(second)
+        && LayoutDiameter::LEAST as u64 * (length + width) <= 2 * length * width
 }
 
 // The distances of a round stack's points from one wall, across the diameter.
