@@ -1,5 +1,4 @@
 -- The laws of the ranges, which the layers above cite.
-pub mod EarlyAnswers
 pub mod InOrder
 pub mod Ranges
 pub mod LeastVolume
