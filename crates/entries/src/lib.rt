@@ -46,7 +46,7 @@ fn entry_trouble(f: JobFile<'_>, k: usize) -> Result<(), BadFile>
     let earlier = Certificates { file: f, count: k };
     if repeats(earlier, certificate::nth(f, k)) {
         return Err(BadFile {
-            why: Reason::Repeated,
+            number: Reason::Repeated.number(),
             place: at,
         });
     }

@@ -1,6 +1,6 @@
 -- The laws of the first trouble met: of a record's rows, and of records in a row.
 use Prim.Native.Nat.{ℕ, zero, suc, ◌+◌, ◌≤◌, ◌<◌}
-use mathlib.Core.Path.{◌≡◌, refl, sym, ◌∙◌, ap}
+use mathlib.Core.Path.{◌≡◌, refl, sym, ◌∙◌, ap, ap₂}
 use mathlib.Core.Bool.{Bool, true, false, false≢true, ◌&&◌}
 use mathlib.Core.Logic.{⊎_elim}
 use mathlib.Core.List.{List, [], ◌∷◌, ◌++◌}
@@ -81,8 +81,23 @@ checks_moved m t (r ∷ rs) =
     along Clear false = refl
 
 -- rows and then others moved along: the trouble of the first, or else that of the others, moved along
-pub checks_then : (rs : List Row) (m : ℕ) (qs : List Row) → checks Clear (rs ++ moved_along m qs) ≡ first (checks Clear rs) (from m (checks Clear qs))
+checks_then : (rs : List Row) (m : ℕ) (qs : List Row) → checks Clear (rs ++ moved_along m qs) ≡ first (checks Clear rs) (from m (checks Clear qs))
 checks_then rs m qs = checks_both Clear rs (moved_along m qs) ∙ checks_first _ (moved_along m qs) ∙ ap (first (checks Clear rs)) (checks_moved m Clear qs)
+
+-- so the code answers the trouble r of the first early ..
+pub then_met : (rs : List Row) (m : ℕ) (qs : List Row) {r : Trouble} {n p : ℕ} → r ≡ checks Clear rs → r ≡ At n p → r ≡ checks Clear (rs ++ moved_along m qs)
+then_met rs m qs e told = told ∙ sym (first_at _ (sym e ∙ told)) ∙ sym (checks_then rs m qs)
+
+-- .. or q was clear, and it answers that of the others
+pub then_passed :
+    (rs : List Row) (m : ℕ) (qs : List Row) {q own r : Trouble} {l : ℕ}
+    → q ≡ checks Clear rs
+    → q ≡ Clear
+    → own ≡ checks Clear qs
+    → l ≡ m
+    → r ≡ from l own
+    → r ≡ checks Clear (rs ++ moved_along m qs)
+then_passed rs m qs e told others along f = (f ∙ ap₂ from along others) ∙ sym (first_clear _ (sym e ∙ told)) ∙ sym (checks_then rs m qs)
 
 pub checks_clear : (rs : List Row) → checks Clear rs ≡ Clear → AllGood rs
 unfolding checks first

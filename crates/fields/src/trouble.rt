@@ -1,16 +1,16 @@
-// The first trouble met in a file: why it is refused, and the place that this is about.
+// The first trouble met in a file: the refusal's number, and the place that it is about.
 
 ghost use Rattle.std.specs.Prelude.{◌≡◌, ◌+◌, ◌^◌, ◌<◌};
 ghost use Rattle.refusals.specs.Reasons.{reason_number};
-ghost use Rattle.fields.specs.Trouble.{trouble_unless, count_range, field_range, trouble_place, from};
+ghost use Rattle.fields.specs.Trouble.{trouble_unless, unless, count_range, field_range, trouble_place, from};
 ghost use Rattle.fields.specs.Refusals.{trouble_of};
 
 use refusals::Reason;
 
-// Why a file is refused, and the place that this is about.
+// What a file's refusal tells: its number, which `Reason` names, and the place that it is about.
 #[derive(Clone, Copy)]
 pub struct BadFile {
-    pub why: Reason,
+    pub number: u32,
     pub place: usize,
 }
 
@@ -21,9 +21,25 @@ pub fn from(start: usize, found: Result<(), BadFile>) -> Result<(), BadFile>
     ensures { trouble_of result ≡ from start (trouble_of found) }
 {
     found.map_err(|e| BadFile {
-        why: e.why,
+        number: e.number,
         place: start + e.place,
     })
+}
+
+// The trouble met so far, or else this one, unless all is well.
+pub fn unless(met: Result<(), BadFile>, ok: bool, number: u32, place: usize) -> Result<(), BadFile>
+    ensures { trouble_of result ≡ unless (trouble_of met) ok number place }
+{
+    match met {
+        Err(e) => Err(e),
+        Ok(()) => {
+            if ok {
+                Ok(())
+            } else {
+                Err(BadFile { number, place })
+            }
+        }
+    }
 }
 
 // A row of a record's table: all is well, or the file is refused for this, at the field's place in the record. Rows stand one after the
@@ -31,11 +47,7 @@ pub fn from(start: usize, found: Result<(), BadFile>) -> Result<(), BadFile>
 pub fn row(ok: bool, why: Reason, place: usize) -> Result<(), BadFile>
     ensures { trouble_of result ≡ trouble_unless ok (reason_number why) place }
 {
-    if ok {
-        Ok(())
-    } else {
-        Err(BadFile { why, place })
-    }
+    unless(Ok(()), ok, why.number(), place)
 }
 
 // The row of a count.

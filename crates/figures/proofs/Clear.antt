@@ -9,7 +9,6 @@ use lib.Dec.{leb, eqb}
 use lib.ListN.{length}
 use Rattle.fields.specs.Numbers.{byte_at, u16_at}
 use Rattle.std.specs.Prelude.{Result, Ok, Err, IsErrAnd}
-use Rattle.refusals.specs.Reasons.{reason_number}
 use Rattle.fields.specs.declared.trouble.BadFile.{BadFile}
 use Rattle.fields.specs.Trouble.{Trouble, Clear, At, trouble_unless, bad_figure, checks}
 use Rattle.fields.proofs.FirstTrouble.{told, clear_left, clear_right, checks_clear, first_told, later_told, unless_told, up_told}
@@ -106,7 +105,7 @@ fourteen_fits s {n = n} {p} e met =
     omega (arith, leb-true p longest_figure (both_right (eqb n bad_figure) _ known))
 
 -- What is read, put together: a trouble that a `?` hands on ..
-pub is_refused : (s : List ℕ) (q : Result Figure BadFile) (e : BadFile) → IsErrAnd q (λ y. y ≡ e) → At (reason_number e.why) e.place ≡ figure_trouble s → told_figure q ≡ read_figure s
+pub is_refused : (s : List ℕ) (q : Result Figure BadFile) (e : BadFile) → IsErrAnd q (λ y. y ≡ e) → At e.number e.place ≡ figure_trouble s → told_figure q ≡ read_figure s
 unfolding read_figure
 is_refused s (Ok f) e same told = absurd same
 is_refused s (Err y) e same told = rw (same, ← told)

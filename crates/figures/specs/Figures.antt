@@ -1,7 +1,6 @@
 -- The figure file (docs/RULES.md, The figure file): its fields in order of place, the first trouble met, and the figure that it holds.
 use Rattle.std.specs.Prelude.{Result, Ok, Err, ℕ, zero, suc, ◌+◌, ◌*◌, Bool, ◌&&◌, List, [], ◌∷◌, ◌++◌, leb, eqb, length}
 use Rattle.fields.specs.Numbers.{byte_at, u16_at}
-use Rattle.refusals.specs.Reasons.{reason_number}
 use Rattle.fields.specs.declared.trouble.BadFile.{BadFile}
 use Rattle.fields.specs.Trouble.{Trouble, Clear, At, bad_figure, Row, checks}
 use Rattle.arrays.specs.Arrays.{padded}
@@ -123,8 +122,7 @@ supplied_by (At number place) s = record { trouble = At number place; figure = n
 unfoldable pub read_figure : List ℕ → Supplied
 read_figure s = supplied_by (figure_trouble s) s
 
--- what the code answers of a file, as what the file supplies; it tells the answer, since no two reasons have one number (reason_apart
--- of refusals)
+-- what the code answers of a file, as what the file supplies
 abbrev pub told_figure : Result Figure BadFile → Supplied
 told_figure (Ok f) = record { trouble = Clear; figure = f }
-told_figure (Err e) = record { trouble = At (reason_number e.why) e.place; figure = no_figure }
+told_figure (Err e) = record { trouble = At e.number e.place; figure = no_figure }

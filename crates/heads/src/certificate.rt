@@ -105,8 +105,8 @@ fn value_rows(c: Certificate) -> Result<(), BadFile>
 fn rows(v: Version, c: Certificate) -> Result<(), BadFile>
     ensures { trouble_of result ≡ checks Clear (certificate_rows v c) }
 {
-    trouble::field(0, CertificateKind::check(c.kind))?;
-    identities::rows(c.identity, 1)?;
+    let met = trouble::field(0, CertificateKind::check(c.kind));
+    identities::rows(met, c.identity, 1)?;
     trouble::from(opening::letters(v, 1), value_rows(c))
 }
 
@@ -116,7 +116,7 @@ pub fn trouble(f: JobFile<'_>, at: usize) -> Result<(), BadFile>
     let t = Record::at(f, at);
     if t.bytes.len() < identities::size(f.version, SIZE, 1) {
         return Err(BadFile {
-            why: Reason::Incomplete,
+            number: Reason::Incomplete.number(),
             place: f.bytes.len(),
         });
     }

@@ -135,10 +135,10 @@ fn reading_rows(h: RunHeader, spare: u8) -> Result<(), BadFile>
 fn rows(v: Version, h: RunHeader, spare: u8) -> Result<(), BadFile>
     ensures { trouble_of result ≡ checks Clear (header_rows v h spare) }
 {
-    trouble::field(0, RunNumber::check(h.number))?;
-    identities::rows(h.meter, 4)?;
-    identities::rows(h.pitot, 11 + opening::letters(v, 1))?;
-    identities::rows(h.nozzle, 18 + opening::letters(v, 2))?;
+    let met = trouble::field(0, RunNumber::check(h.number));
+    let met = identities::rows(met, h.meter, 4);
+    let met = identities::rows(met, h.pitot, 11 + opening::letters(v, 1));
+    identities::rows(met, h.nozzle, 18 + opening::letters(v, 2))?;
     trouble::from(opening::letters(v, 3), reading_rows(h, spare))
 }
 
@@ -148,7 +148,7 @@ pub fn trouble(f: JobFile<'_>, at: usize) -> Result<(), BadFile>
     let t = Record::at(f, at);
     if t.bytes.len() < size(f.version) {
         return Err(BadFile {
-            why: Reason::Incomplete,
+            number: Reason::Incomplete.number(),
             place: f.bytes.len(),
         });
     }

@@ -5,7 +5,7 @@
 #![tactic(auto)]
 
 ghost use Rattle.std.specs.Prelude.{◌≡◌, ◌+◌, ◌^◌, ◌<◌, ◌≤◌, length, drop};
-ghost use Rattle.fields.specs.Trouble.{Clear, checks};
+ghost use Rattle.fields.specs.Trouble.{checks};
 ghost use Rattle.fields.specs.Refusals.{trouble_of};
 ghost use Rattle.records.specs.InRange.{maker_letters};
 ghost use Rattle.opening.specs.Opening.{letters};
@@ -88,12 +88,12 @@ fn maker_letters(m: Maker) -> bool
     Letter::check(m.first) && Letter::check(m.second) && Letter::check(m.third)
 }
 
-// The rows of an identity at a place of a record.
-pub fn rows(id: Identity, at: usize) -> Result<(), BadFile>
+// The trouble met so far, or else that of the rows of an identity at a place of a record.
+pub fn rows(met: Result<(), BadFile>, id: Identity, at: usize) -> Result<(), BadFile>
     requires { at + 7 < 2 ^ 64 }
-    ensures { trouble_of result ≡ checks Clear (identity_rows at id) }
+    ensures { trouble_of result ≡ checks (trouble_of met) (identity_rows at id) }
 {
-    trouble::field(at, maker_letters(id.maker))
+    met.and(trouble::field(at, maker_letters(id.maker)))
         .and(trouble::field(at + 3, Serial::check(id.serial)))
         .and(trouble::field(at + 7, RebuildLetter::check(id.letter)))
 }

@@ -8,7 +8,6 @@ use lib.Dec.{lit≤}
 use lib.ListN.{length}
 use Rattle.readings.specs.Ranges.{greatest_run_count, least_run_count, greatest_certificate_count}
 use Rattle.std.specs.Prelude.{Result, Ok, Err, IsErrAnd}
-use Rattle.refusals.specs.Reasons.{reason_number}
 use Rattle.fields.specs.declared.trouble.BadFile.{BadFile}
 use Rattle.fields.specs.Trouble.{Clear, At, up_to}
 use Rattle.fields.proofs.FirstTrouble.{clear_left, each_clear, first_at}
@@ -44,6 +43,6 @@ unfolding job_trouble
 header_refuses s told = first_at _ told
 
 -- What is read where the first trouble is handed on by a `?`
-pub read_stops : (s : List ℕ) (q : Result ClearFile BadFile) (e : BadFile) → IsErrAnd q (λ y. y ≡ e) → At (reason_number e.why) e.place ≡ job_trouble s → IsRead s q
+pub read_stops : (s : List ℕ) (q : Result ClearFile BadFile) (e : BadFile) → IsErrAnd q (λ y. y ≡ e) → At e.number e.place ≡ job_trouble s → IsRead s q
 read_stops s (Ok j) e same told = absurd same
 read_stops s (Err y) e same told = rw same (sym told)

@@ -50,7 +50,7 @@ fn parts_trouble(f: JobFile<'_>, start: usize, n: Counts) -> Result<(), BadFile>
     part::troubles::<Weighing>(f.bytes, at_weighings, n.weighings)?;
     if !good_seconds(f, start, n) {
         return Err(BadFile {
-            why: Reason::Seconds,
+            number: Reason::Seconds.number(),
             place: start,
         });
     }
@@ -66,7 +66,7 @@ fn run_trouble(f: JobFile<'_>, start: usize, lower: u16) -> Result<(), BadFile>
     let h = header::header(Record::at(f, start));
     if h.number <= lower {
         return Err(BadFile {
-            why: Reason::Repeated,
+            number: Reason::Repeated.number(),
             place: start,
         });
     }
@@ -105,7 +105,7 @@ pub fn read(
     }
     if at < f.bytes.len() {
         return Err(BadFile {
-            why: Reason::LeftOver,
+            number: Reason::LeftOver.number(),
             place: at,
         });
     }

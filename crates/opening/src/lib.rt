@@ -101,7 +101,7 @@ pub fn trouble(s: &[u8]) -> Result<(), BadFile>
 {
     if s.len() < SIZE {
         return Err(BadFile {
-            why: Reason::Incomplete,
+            number: Reason::Incomplete.number(),
             place: s.len(),
         });
     }

@@ -17,11 +17,11 @@ told n p fits e =
     rw e (ap₂ Refused number place)
 
 -- a file's refusal is told as it is, since its place fits
-pub file_told : (e : BadFile) (r : Result ℕ Refusal) → e.place < 2 ^ 32 → IsErrAnd r (λ x. x ≡ record { told = reason_number e.why * 4294967296 + min e.place 4294967295 }) → answer_told r ≡ Refused (reason_number e.why) e.place
+pub file_told : (e : BadFile) (r : Result ℕ Refusal) → e.place < 2 ^ 32 → IsErrAnd r (λ x. x ≡ record { told = e.number * 4294967296 + min e.place 4294967295 }) → answer_told r ≡ Refused e.number e.place
 file_told e (Ok v) fits given = absurd given
 file_told e (Err x) fits given =
     let whole : min e.place 4294967295 ≡ e.place = omega arith in
-    told (reason_number e.why) e.place fits (given ∙ ap (λ (p : ℕ). record { told = reason_number e.why * 4294967296 + p }) whole)
+    told e.number e.place fits (given ∙ ap (λ (p : ℕ). record { told = e.number * 4294967296 + p }) whole)
 
 -- a call's own is about no place
 pub call_told : (why : Reason) (r : Result ℕ Refusal) → IsErrAnd r (λ x. x ≡ record { told = reason_number why * 4294967296 }) → answer_told r ≡ Refused (reason_number why) 0

@@ -36,11 +36,11 @@ impl From<Reason> for Refusal {
 
 // A refusal of a file. No file that is read is so long that a place does not fit.
 impl From<BadFile> for Refusal {
-    ghost from_gives = { λ e r. r ≡ record { told = reason_number e.why * 4294967296 + min e.place 4294967295 } };
+    ghost from_gives = { λ e r. r ≡ record { told = e.number * 4294967296 + min e.place 4294967295 } };
 
     fn from(e: BadFile) -> Refusal {
         Refusal {
-            told: e.why.number() as u64 * HIGH + e.place.min(u32::MAX as usize) as u64,
+            told: e.number as u64 * HIGH + e.place.min(u32::MAX as usize) as u64,
         }
     }
 }

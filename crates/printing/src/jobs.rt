@@ -1,7 +1,6 @@
 // What the program prints of a file: a refusal, or its runs in file order.
 
 ghost use Rattle.std.specs.Prelude.{◌≤◌, length};
-ghost use Rattle.refusals.specs.Reasons.{reason_number};
 ghost use Rattle.characters.specs.Writing.{Room, Wrote, WroteFront};
 ghost use Rattle.printing.specs.Jobs.{refusal_text, runs_text, job_text};
 
@@ -18,11 +17,11 @@ pub const ROOM: usize = 27088;
 
 // A refusal: its number and its place.
 fn put_refusal(to: &mut Writer<'_>, e: BadFile)
-    requires { Room to.old (refusal_text (reason_number e.why) e.place) }
-    ensures { Wrote to.old (refusal_text (reason_number e.why) e.place) to.new }
+    requires { Room to.old (refusal_text e.number e.place) }
+    ensures { Wrote to.old (refusal_text e.number e.place) to.new }
 {
     to.word(b"REFUSED ");
-    to.decimal(e.why.number() as u64);
+    to.decimal(e.number as u64);
     to.word(b" ");
     to.decimal(e.place as u64);
     to.word(b"\n");

@@ -52,8 +52,9 @@ pub returns-then-repeats : goal.returns-then-repeats
 returns-then-repeats c =
     let at = goal.at.returns-then-repeats c in
     let there = at_place at.After-place-at in
-    passes (clear at.In_ok-trouble there)
-    (ap₂ (λ (b : Bool) (p : ℕ). trouble_unless (not b) repeated p) (sym c.if-repeats.true ∙ again at.After-repeats) there)
+    rw c.number.ensures
+    (passes (clear at.In_ok-trouble there)
+    (ap₂ (λ (b : Bool) (p : ℕ). trouble_unless (not b) repeated p) (sym c.if-repeats.true ∙ again at.After-repeats) there))
 
 pub returns : goal.returns
 returns c =

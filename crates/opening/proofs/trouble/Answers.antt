@@ -6,7 +6,7 @@ use Rattle.fields.proofs.RecordTrouble.{short_at, whole_at}
 use Rattle.opening.proofs.trouble.Goals as goal
 
 pub returns-then-s-lt-SIZE : goal.returns-then-s-lt-SIZE
-returns-then-s-lt-SIZE c = short_at c.args.s.now 0 file_header_size _ refl c.if-s-lt-SIZE.true
+returns-then-s-lt-SIZE c = rw c.number.ensures (short_at c.args.s.now 0 file_header_size _ refl c.if-s-lt-SIZE.true)
 
 pub returns : goal.returns
 returns c =

@@ -1,54 +1,49 @@
--- The number, the identities, and the readings behind them, moved along: the first that is refused is the answer.
+-- The number and the identities, each row as the table's; those behind the identities are moved along.
 use Prim.Native.Nat.{ℕ, ◌+◌, ◌≤◌}
 use mathlib.Core.Path.{◌≡◌, refl, ◌∙◌, ap, ap₂}
+use mathlib.Core.Bool.{Bool}
+use mathlib.Core.List.{List, ◌∷◌, ◌++◌}
 use native.Mathlib.Omega.{arith}
-use Rattle.fields.specs.Trouble.{Clear, field_range, trouble_unless, checks, trouble_place, from}
+use Rattle.fields.specs.Trouble.{Trouble, Clear, Row, field_range, field, trouble_unless, first, checks, trouble_place}
 use Rattle.fields.specs.Refusals.{trouble_of}
-use Rattle.fields.proofs.FirstTrouble.{checks_reach}
-use Rattle.fields.proofs.Refusals.{refuses, passes}
+use Rattle.fields.proofs.FirstTrouble.{then_met, then_passed, checks_reach}
+use Rattle.fields.proofs.Refusals.{handed}
+use Rattle.readings.specs.declared.headers.Version.{Version}
 use Rattle.readings.specs.Ranges.{run_number}
+use Rattle.records.specs.declared.RunHeader.{RunHeader}
 use Rattle.opening.specs.Opening.{letters}
 use Rattle.opening.proofs.HowMany.{few}
 use Rattle.identities.specs.Identities.{identity_rows}
 use Rattle.heads.specs.Rows.{reading_rows}
-use Rattle.heads.proofs.Tables.{header_parts}
 use Rattle.heads.proofs.header.rows.Goals as goal
-use Rattle.heads.proofs.header.rows.Goals.{In_ok-field, In_ok-rows-2, In_ok-rows-3}
+use Rattle.heads.proofs.header.rows.Goals.{After-rows-met-2}
 
--- each part that all is well with
-number_clear : (c : In_ok-field) → Clear ≡ trouble_unless (run_number c.args.h.number) field_range 0
-number_clear c = rw (← c.check.ensures) c.in_ok-field.ensures
+-- run number and identities
+abbrev front : Version → RunHeader → List Row
+front v h =
+    field 0 (run_number h.number)
+    ∷ identity_rows 4 h.meter
+    ++ identity_rows (11 + letters v 1) h.pitot
+    ++ identity_rows (18 + letters v 2) h.nozzle
 
-pitot_clear : (c : In_ok-rows-2) → Clear ≡ checks Clear (identity_rows (11 + letters c.args.v 1) c.args.h.pitot)
-pitot_clear c = c.in_ok-rows-2.ensures ∙ ap (λ (l : ℕ). checks Clear (identity_rows (11 + l) c.args.h.pitot)) c.letters.ensures
-
-nozzle_clear : (c : In_ok-rows-3) → Clear ≡ checks Clear (identity_rows (18 + letters c.args.v 2) c.args.h.nozzle)
-nozzle_clear c = c.in_ok-rows-3.ensures ∙ ap (λ (l : ℕ). checks Clear (identity_rows (18 + l) c.args.h.nozzle)) c.letters-2.ensures
-
-pub returns-in_err-field : goal.returns-in_err-field
-returns-in_err-field c = rw (header_parts c.args.v c.args.h c.args.spare) (refuses _ _ _ c.from_residual.ensures.1 (rw (← c.check.ensures) c.in_err-field.ensures))
+-- what the code looks at, one after the other, is these rows, wherever the last identity stands
+in_front :
+    (c : After-rows-met-2) {l : ℕ} {t : Trouble}
+    → l ≡ letters c.args.v 2
+    → t ≡ checks (trouble_of c.rows-met-2.result) (identity_rows (18 + l) c.args.h.nozzle)
+    → t ≡ checks Clear (front c.args.v c.args.h)
+unfolding checks first
+in_front c e f =
+    let h = c.args.h in
+    let row0 = c.field-met.ensures ∙ ap (λ (b : Bool). trouble_unless b field_range 0) c.check.ensures in
+    let row4 = c.rows-met.ensures ∙ ap (λ (u : Trouble). checks u (identity_rows 4 h.meter)) row0 in
+    let row11 = c.rows-met-2.ensures ∙ ap₂ (λ (u : Trouble) (k : ℕ). checks u (identity_rows (11 + k) h.pitot)) row4 c.letters.ensures in
+    f ∙ ap₂ (λ (u : Trouble) (k : ℕ). checks u (identity_rows (18 + k) h.nozzle)) row11 e
 
 pub returns-in_err-rows : goal.returns-in_err-rows
 returns-in_err-rows c =
-    let at = goal.at.returns-in_err-rows c in
-    rw (header_parts c.args.v c.args.h c.args.spare) (passes (number_clear at.In_ok-field) (refuses _ _ _ c.from_residual-in_err-rows.ensures.1 c.in_err-rows.ensures))
-
-pub returns-in_err-rows-2 : goal.returns-in_err-rows-2
-returns-in_err-rows-2 c =
-    let at = goal.at.returns-in_err-rows-2 c in
-    rw (header_parts c.args.v c.args.h c.args.spare)
-    (passes (number_clear at.In_ok-field)
-    (passes c.in_ok-rows.ensures
-    (refuses _ _ _ c.from_residual-in_err-rows-2.ensures.1 (c.in_err-rows-2.ensures ∙ ap (λ (l : ℕ). checks Clear (identity_rows (11 + l) c.args.h.pitot)) c.letters.ensures))))
-
-pub returns-in_err-rows-3 : goal.returns-in_err-rows-3
-returns-in_err-rows-3 c =
-    let at = goal.at.returns-in_err-rows-3 c in
-    rw (header_parts c.args.v c.args.h c.args.spare)
-    (passes (number_clear at.In_ok-field)
-    (passes c.in_ok-rows.ensures
-    (passes (pitot_clear at.In_ok-rows-2)
-    (refuses _ _ _ c.from_residual-in_err-rows-3.ensures.1 (c.in_err-rows-3.ensures ∙ ap (λ (l : ℕ). checks Clear (identity_rows (18 + l) c.args.h.nozzle)) c.letters-2.ensures)))))
+    let told = in_front (goal.at.returns-in_err-rows c).After-rows-met-2 c.letters-2.ensures c.in_err-rows.ensures in
+    then_met (front c.args.v c.args.h) (letters c.args.v 3) (reading_rows c.args.h c.args.spare) (handed _ _ c.from_residual.ensures.1 told) (handed _ _ c.from_residual.ensures.1 refl)
 
 pub from-requires : goal.from-requires
 from-requires c =
@@ -57,9 +52,5 @@ from-requires c =
 
 pub returns : goal.returns
 returns c =
-    let at = goal.at.returns c in
-    rw (header_parts c.args.v c.args.h c.args.spare)
-    (passes (number_clear at.In_ok-field)
-    (passes c.in_ok-rows.ensures
-    (passes (pitot_clear at.In_ok-rows-2)
-    (passes (nozzle_clear at.In_ok-rows-3) (c.from.ensures ∙ ap₂ from c.letters-3.ensures c.reading_rows.ensures)))))
+    let clear = in_front (goal.at.returns c).After-rows-met-2 c.letters-2.ensures c.in_ok-rows.ensures in
+    then_passed (front c.args.v c.args.h) (letters c.args.v 3) (reading_rows c.args.h c.args.spare) clear refl c.reading_rows.ensures c.letters-3.ensures c.from.ensures

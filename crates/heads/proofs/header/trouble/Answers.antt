@@ -37,8 +37,9 @@ own c =
 
 pub returns-then-t-size : goal.returns-then-t-size
 returns-then-t-size c =
-    short_at _ _ (run_header_size c.args.f.version) _ c.at-t.ensures.0 (rw c.size.ensures at c.if-t-size.true)
-    ∙ ap (by c.args.f.bytes.now c.args.at) c.args.f.said
+    rw c.number.ensures
+    (short_at _ _ (run_header_size c.args.f.version) _ c.at-t.ensures.0 (rw c.size.ensures at c.if-t-size.true)
+    ∙ ap (by c.args.f.bytes.now c.args.at) c.args.f.said)
 
 pub from-requires : goal.from-requires
 from-requires c =

@@ -80,9 +80,10 @@ unfolding parts_trouble
 returns-then-not-good_seconds c =
     let at = goal.at.returns-then-not-good_seconds c in
     let e = size at.After-size in
-    passes (points_clear at.In_ok-troubles e)
+    rw c.number.ensures
+    (passes (points_clear at.In_ok-troubles e)
     (passes (segments_clear at.In_ok-troubles-2 e)
-    (passes (weighings_clear at.In_ok-troubles-3 e) (ap (λ (b : Bool). trouble_unless b wrong_seconds c.args.start) (sym c.if-not-good_seconds.true ∙ c.good_seconds.ensures))))
+    (passes (weighings_clear at.In_ok-troubles-3 e) (ap (λ (b : Bool). trouble_unless b wrong_seconds c.args.start) (sym c.if-not-good_seconds.true ∙ c.good_seconds.ensures)))))
 
 pub returns : goal.returns
 unfolding parts_trouble

@@ -68,7 +68,7 @@ returns-then-at-f-clause-trouble c =
     let at = c.loop-k.at in
     let more : at < length s = c.if-at-f.true in
     let over : At left_over at ≡ end_trouble s at = rw (lt-leb _ _ more) in
-    passes (ends _ _ _ passed.4 passed.0 left) (over ∙ ap (end_trouble s) (passed.2 ∙ ap (run_start _) done))
+    rw c.number.ensures (passes (ends _ _ _ passed.4 passed.0 left) (over ∙ ap (end_trouble s) (passed.2 ∙ ap (run_start _) done)))
 
 -- .. or none are
 pub returns : goal.returns

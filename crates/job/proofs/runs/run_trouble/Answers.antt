@@ -33,7 +33,7 @@ unfolding run_trouble
 returns-then-h-lower c =
     let h = c.header-h.ensures ∙ ap₂ header (c.at.ensures.1 ∙ c.args.f.said) c.at.ensures.0 in
     let low = subst (λ (r : RunHeader). r.number ≤ c.args.lower) h c.if-h-lower.true in
-    passes c.in_ok-trouble.ensures (sym (first_at _ (rw (le-ltb _ _ low))))
+    rw c.number.ensures (passes c.in_ok-trouble.ensures (sym (first_at _ (rw (le-ltb _ _ low)))))
 
 pub parts_trouble-requires : goal.parts_trouble-requires
 parts_trouble-requires c = complete (goal.at.parts_trouble-requires c).In_ok-trouble

@@ -1,6 +1,5 @@
 -- The runs where the reader meets no trouble, and a refusal where it meets some.
 use Rattle.std.proofs.Common.{ℕ, ◌≡◌, List, refl, rules, arith}
-use Rattle.refusals.specs.Reasons.{reason_number}
 use Rattle.fields.specs.Trouble.{At}
 use Rattle.steps.specs.declared.Figure.{Figure}
 use Rattle.job.specs.Troubles.{job_trouble}
@@ -16,7 +15,7 @@ unfolding job_text
 refused fig s e = rw e
 
 pub put_refusal-requires : goal.put_refusal-requires
-put_refusal-requires c = record { fits = omega (arith, refusal_short (reason_number c.in-Err.e.why) c.in-Err.e.place) }
+put_refusal-requires c = record { fits = omega (arith, refusal_short c.in-Err.e.number c.in-Err.e.place) }
 
 pub returns-in-Ok : goal.returns-in-Ok
 returns-in-Ok c = rw (c.in-Ok.ensures.0, text_of_runs _ _ _ c.in-Ok.ensures.1) at c.put_runs.ensures
