@@ -47,6 +47,7 @@ pub trait Form {
 }
 
 // Counts and numbers of fixed width.
+#[derive(Clone, Copy)]
 pub struct Bytes;
 
 #[tactic(auto, using(crate::proofs::Days::as_bytes), unfolding(crate::specs::Forms::head_in, crate::specs::Forms::condition_in, crate::specs::Forms::day_in, reasons::specs::Bytes::condition_bytes))]
@@ -76,6 +77,7 @@ impl Form for Bytes {
 }
 
 // Lines of words.
+#[derive(Clone, Copy)]
 pub struct Text;
 
 #[tactic(auto, using(crate::proofs::Days::as_text), unfolding(crate::specs::Forms::head_in, crate::specs::Forms::condition_in, crate::specs::Forms::day_in))]
