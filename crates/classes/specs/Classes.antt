@@ -1,5 +1,5 @@
 -- Of what places each rule of docs/RULES.md, The findings, speaks, and the class of its findings.
-use Rattle.std.specs.Prelude.{ℕ, ◌+◌, Bool, true, false, cond, List, [], ◌∷◌, eqb}
+use Rattle.std.specs.Prelude.{ℕ, ◌+◌, cond, List, [], ◌∷◌, eqb}
 use Rattle.readings.specs.declared.headers.Version.{Version}
 use Rattle.readings.specs.declared.headers.Version.TheVariants.{One, Two}
 use Rattle.numbered.specs.Numbered.{one_of}
@@ -16,15 +16,18 @@ places_of n rule =
 unfoldable pub place_at : ℕ → ℕ → ℕ
 place_at rule i = cond (one_of (10 ∷ 11 ∷ 17 ∷ []) rule) (i + 1) 0
 
+-- the number of a fault
+abbrev pub fault : ℕ
+fault = 1
+
+-- the number of a note
+abbrev pub note : ℕ
+note = 2
+
 -- the number of a class
 abbrev pub class_number : Class → ℕ
-class_number Fault = 1
-class_number Note = 2
-
--- whether a finding of that class voids its run
-abbrev pub is_fault : Class → Bool
-is_fault Fault = true
-is_fault Note = false
+class_number Fault = fault
+class_number Note = note
 
 -- the notes of a job, by its version: 5 and 11, and in version 2 no longer 5
 abbrev pub notes : Version → List ℕ

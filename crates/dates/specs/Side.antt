@@ -3,7 +3,15 @@ use Rattle.std.specs.Prelude.{ℕ}
 use Rattle.dates.specs.declared.Side.{Side}
 use Rattle.dates.specs.declared.Side.TheVariants.{Before, After}
 
--- on it or before it, and later
+-- on it or before it
+abbrev pub before : ℕ
+before = 1
+
+-- and later
+abbrev pub after : ℕ
+after = 2
+
+-- the number of a side
 abbrev pub side_number : Side → ℕ
-side_number Before = 1
-side_number After = 2
+side_number Before = before
+side_number After = after

@@ -14,7 +14,7 @@ use Rattle.records.specs.declared.Run.{Run}
 use Rattle.lines.specs.declared.Lines.{Lines}
 use Rattle.choosing.specs.declared.Chosen.{Chosen}
 use Rattle.findings.specs.declared.Finding.{Finding}
-use Rattle.classes.specs.Classes.{places_of, class_of}
+use Rattle.classes.specs.Classes.{places_of, class_number, class_of}
 use Rattle.rules.specs.Rules.{last_rule}
 use Rattle.steps.specs.declared.Figure.{Figure}
 use Rattle.findings.specs.Listing.{broken_at, finding_at, rule_findings, findings_to, findings, no_finding}
@@ -66,7 +66,7 @@ each_once v fig r ch l i j i-in j-in rule place = go (dec_lt i j) (dec_lt j i)
     go (no first) (no second) = omega arith
 
 -- Each finding has its rule's class
-pub class_at : (v : Version) (fig : Figure) (r : Run) (ch : Chosen) (l : Lines) (i : ℕ) → i < length (findings v fig r ch l) → (get_or (findings v fig r ch l) i no_finding).class ≡ class_of v (get_or (findings v fig r ch l) i no_finding).rule
+pub class_at : (v : Version) (fig : Figure) (r : Run) (ch : Chosen) (l : Lines) (i : ℕ) → i < length (findings v fig r ch l) → (get_or (findings v fig r ch l) i no_finding).class ≡ class_number (class_of v (get_or (findings v fig r ch l) i no_finding).rule)
 unfolding findings finding_at
 class_at v fig r ch l i inside =
     let o : OfRules v (broken_at fig r ch l) (places_of r.header.counts) last_rule (get_or (findings v fig r ch l) i no_finding) =

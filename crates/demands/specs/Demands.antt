@@ -3,8 +3,7 @@
 use Rattle.std.specs.Prelude.{ℕ, ◌-◌, ◌*◌, ◌^◌, ◌≤◌, ◌<◌, ◌≡◌, Bool, true, List, ◌⊎◌, ◌↔◌, length, take, drop, get_or}
 use Rattle.fields.specs.Trouble.{Clear}
 use Rattle.choosing.specs.Choosing.{SameForRun}
-use Rattle.classes.specs.declared.Class.TheVariants.{Fault}
-use Rattle.classes.specs.Classes.{class_of}
+use Rattle.classes.specs.Classes.{fault, class_number, class_of}
 use Rattle.findings.specs.declared.Finding.{Finding}
 use Rattle.findings.specs.Listing.{most_findings, no_finding, lines_for, Breaks, HasFinding}
 use Rattle.heads.specs.Values.{certificate_of}
@@ -140,7 +139,7 @@ pub record FindingsOf (fig : Figure) (s : List ℕ) (k : ℕ) (list : List Findi
   pub exactly :
       (rule place : ℕ)
       → HasFinding list rule place ↔ Breaks fig (run_of s k) (chosen_in s k) (lines_for (version_of s) (run_of s k) (chosen_in s k)) rule place
-  pub class : (i : ℕ) → i < length list → (get_or list i no_finding).class ≡ class_of (version_of s) (get_or list i no_finding).rule
+  pub class : (i : ℕ) → i < length list → (get_or list i no_finding).class ≡ class_number (class_of (version_of s) (get_or list i no_finding).rule)
 
 pub record Demand3 (c : Call) : Type 0 where
   pub index : ℕ
@@ -157,7 +156,7 @@ pub record Demand3 (c : Call) : Type 0 where
       → c.answer ≡ success count verdict
       → (count ≡ length list) × (verdict ≡ accepted)
   -- it is accepted exactly if none of them is a fault
-  pub stands : (accepted ≡ true) ↔ ((i : ℕ) → i < length list → (get_or list i no_finding).class ≡ Fault → ⊥)
+  pub stands : (accepted ≡ true) ↔ ((i : ℕ) → i < length list → (get_or list i no_finding).class ≡ fault → ⊥)
   -- the bytes of the i-th are the i-th of the list
   pub bytes : (i : ℕ) → i < length list → bytes_of_finding c.findings_out i ≡ finding_bytes (get_or list i no_finding)
 

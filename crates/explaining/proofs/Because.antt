@@ -17,8 +17,7 @@ use Rattle.dates.specs.Dates.{days_of}
 use Rattle.diameters.specs.Diameters.{is_round}
 use Rattle.steps.specs.declared.Figure.{Figure}
 use Rattle.conditions.specs.declared.Part.{Part}
-use Rattle.classes.specs.declared.Class.{Class}
-use Rattle.classes.specs.Classes.{class_of}
+use Rattle.classes.specs.Classes.{class_number, class_of}
 use Rattle.rules.specs.declared.Beside.{Beside}
 use Rattle.rules.specs.Rules.{last_rule, table, ground_of}
 use Rattle.findings.specs.declared.Sought.TheVariants.{Why}
@@ -108,6 +107,6 @@ unfolding run_at
 header_is {s} {j = j} {k = k} ok ev ew et eh = eh ∙ rw (ew, ev, et, start_of s j ok.job k ok.inside)
 
 -- A finding explained by a ground, from what is read and chosen
-pub put_together : {s t : List ℕ} {v w : Version} {j : Job} {k : ℕ} {h : RunHeader} {class : Class} {days : Days} (g : Ground) (rule place : ℕ) → ClearRun s j k → v ≡ version_of s → w ≡ v → t ≡ drop (get_or j.starts k 0) s → h ≡ header w t → class ≡ class_of v rule → days ≡ days_of v (certificate_of s) j.certificates h rule → ◌≡◌ {A = Explanation} (record { finding = record { rule = rule; class = class; place = place }; round = is_round h.site; basis = g; days = days }) (explanation_by g (version_of s) (certificate_of s) (certificate_count_of s) (run_of s k) rule place)
+pub put_together : {s t : List ℕ} {v w : Version} {j : Job} {k : ℕ} {h : RunHeader} {class : ℕ} {days : Days} (g : Ground) (rule place : ℕ) → ClearRun s j k → v ≡ version_of s → w ≡ v → t ≡ drop (get_or j.starts k 0) s → h ≡ header w t → class ≡ class_number (class_of v rule) → days ≡ days_of v (certificate_of s) j.certificates h rule → ◌≡◌ {A = Explanation} (record { finding = record { rule = rule; class = class; place = place }; round = is_round h.site; basis = g; days = days }) (explanation_by g (version_of s) (certificate_of s) (certificate_count_of s) (run_of s k) rule place)
 put_together {s} {j = j} g rule place ok ev ew et eh ec ed =
     rw (ed, ec, header_is ok ev ew et eh, ev, count_of_certificates s j ok.job)

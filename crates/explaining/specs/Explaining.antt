@@ -10,7 +10,7 @@ use Rattle.diameters.specs.Diameters.{is_round}
 use Rattle.steps.specs.declared.Figure.{Figure}
 use Rattle.grounds.specs.declared.Ground.{Ground}
 use Rattle.grounds.specs.Grounds.{broken}
-use Rattle.classes.specs.Classes.{class_of}
+use Rattle.classes.specs.Classes.{class_number, class_of}
 use Rattle.findings.specs.Listing.{lines_for}
 use Rattle.findings.specs.Seeking.{ground_at}
 use Rattle.dates.specs.Dates.{days_of}
@@ -27,7 +27,7 @@ ground_for v fig r ch rule place = ground_at fig r ch (lines_for v r ch) rule pl
 abbrev pub explanation_by : Ground → Version → (ℕ → Certificate) → ℕ → Run → ℕ → ℕ → Explanation
 explanation_by basis v f n r rule place =
     record {
-      finding = record { rule = rule; class = class_of v rule; place = place };
+      finding = record { rule = rule; class = class_number (class_of v rule); place = place };
       round = is_round r.header.site;
       basis = basis;
       days = days_of v f n r.header rule;

@@ -45,7 +45,7 @@ fn explanation_by(basis: Ground, read: ClearFile<'_>, k: usize, rule: u8, place:
     Explanation {
         finding: Finding {
             rule,
-            class: classes::class_of(file.version, rule),
+            class: classes::class_of(file.version, rule).number(),
             place,
         },
         round: header.site.shape == Shape::ROUND,

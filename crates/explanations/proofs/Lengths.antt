@@ -9,9 +9,9 @@ use Rattle.readings.specs.Ranges.{meter, pitot, nozzle}
 use Rattle.grounds.specs.declared.Ground.{Ground}
 use Rattle.grounds.specs.declared.Ground.TheVariants.{Silent, NoCertificate, Compared, Either, Exactly, SignedBelow}
 use Rattle.grounds.specs.Showing.{Condition, Judged, conditions, broken_of, shown}
-use Rattle.dates.specs.declared.Side.TheVariants.{Before, After}
 use Rattle.dates.specs.declared.Sides.{Sides}
 use Rattle.dates.specs.declared.Days.{Days}
+use Rattle.dates.specs.Side.{before, after}
 use Rattle.explaining.specs.declared.Explanation.{Explanation}
 use Rattle.forms.specs.Forms.{Form}
 use Rattle.forms.proofs.Lengths.{head_short, condition_short, day_short}
@@ -47,7 +47,7 @@ conditions_short form rule round (c ∷ cs) =
 sides_short : (form : Form) (kind : ℕ) (s : Sides) → length (sides_in form kind s) ≤ 98
 unfolding sides_in
 sides_short form kind s =
-    simp length-append (omega (arith, day_short form kind Before s.before, day_short form kind After s.after))
+    simp length-append (omega (arith, day_short form kind before s.before, day_short form kind after s.after))
 
 days_short : (form : Form) (d : Days) → length (days_in form d) ≤ 294
 unfolding days_in

@@ -2,9 +2,9 @@
 use Rattle.std.specs.Prelude.{ℕ, Bool, List, [], ◌∷◌, ◌++◌}
 use Rattle.readings.specs.Ranges.{meter, pitot, nozzle}
 use Rattle.grounds.specs.Showing.{Condition, shown}
-use Rattle.dates.specs.declared.Side.TheVariants.{Before, After}
 use Rattle.dates.specs.declared.Sides.{Sides}
 use Rattle.dates.specs.declared.Days.{Days}
+use Rattle.dates.specs.Side.{before, after}
 use Rattle.explaining.specs.declared.Explanation.{Explanation}
 use Rattle.forms.specs.Forms.{Form, head_in, condition_in, day_in}
 
@@ -15,7 +15,7 @@ conditions_in form rule round (c ∷ cs) = condition_in form rule round c ++ con
 
 -- the certificate days of a kind: before, and then after
 unfoldable pub sides_in : Form → ℕ → Sides → List ℕ
-sides_in form kind s = day_in form kind Before s.before ++ day_in form kind After s.after
+sides_in form kind s = day_in form kind before s.before ++ day_in form kind after s.after
 
 -- those of the meter, of the pitot tube and of the nozzle
 unfoldable pub days_in : Form → Days → List ℕ

@@ -58,7 +58,7 @@ fn put_ground<F: Form>(to: &mut Writer<'_>, subject: Subject, ground: Ground)
 
 // A certificate day, where one is used.
 #[tactic(auto, using(forms::proofs::Days::unused, characters::proofs::Texts::wrote_none))]
-fn put_day<F: Form>(to: &mut Writer<'_>, kind: u8, side: Side, day: Day)
+fn put_day<F: Form>(to: &mut Writer<'_>, kind: u8, side: u8, day: Day)
     requires { Room to.old (day_in F.form kind side day) }
     ensures { Wrote to.old (day_in F.form kind side day) to.new }
 {
@@ -75,8 +75,8 @@ fn put_sides<F: Form>(to: &mut Writer<'_>, kind: u8, sides: Sides)
     requires { Room to.old (sides_in F.form kind sides) }
     ensures { Wrote to.old (sides_in F.form kind sides) to.new }
 {
-    put_day::<F>(to, kind, Side::Before, sides.before);
-    put_day::<F>(to, kind, Side::After, sides.after);
+    put_day::<F>(to, kind, Side::Before.number(), sides.before);
+    put_day::<F>(to, kind, Side::After.number(), sides.after);
 }
 
 // The days of all kinds.

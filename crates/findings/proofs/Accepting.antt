@@ -5,10 +5,10 @@ use mathlib.Core.Bool.{Bool, true, false, not, ◌&&◌, false≢true}
 use mathlib.Core.List.{List, [], ◌∷◌}
 use mathlib.Core.Logic.{◌↔◌}
 use native.Mathlib.Nat.{not-suc-le-zero, le_of_suc-le-suc, zero-lt-suc}
+use borrow.Author.Tests.{eq-eqb, ne_eqb}
+use lib.Dec.{eqb}
 use lib.ListN.{length, get_or}
-use Rattle.classes.specs.declared.Class.{Class}
-use Rattle.classes.specs.declared.Class.TheVariants.{Fault, Note}
-use Rattle.classes.specs.Classes.{is_fault}
+use Rattle.classes.specs.Classes.{fault}
 use Rattle.findings.specs.declared.Finding.{Finding}
 use Rattle.findings.specs.Listing.{accepted, no_finding}
 
@@ -17,26 +17,22 @@ and_false true = refl
 and_false false = refl
 
 -- a fault in the list
-pub fault_void : (fs : List Finding) (i : ℕ) → i < length fs → (get_or fs i no_finding).class ≡ Fault → false ≡ accepted fs
+pub fault_void : (fs : List Finding) (i : ℕ) → i < length fs → (get_or fs i no_finding).class ≡ fault → false ≡ accepted fs
 unfolding accepted
 fault_void [] i h e = absurd (not-suc-le-zero h)
-fault_void (f ∷ fs) zero h e = rw e
+fault_void (f ∷ fs) zero h e = rw (eq-eqb _ _ e)
 fault_void (f ∷ fs) (suc i) h e =
-    rw (← fault_void fs i (le_of_suc-le-suc h) e) (and_false (not (is_fault f.class)))
+    rw (← fault_void fs i (le_of_suc-le-suc h) e) (and_false (not (eqb f.class fault)))
 
 -- none in it
-not_fault : (c : Class) → (c ≡ Fault → ⊥) → is_fault c ≡ false
-not_fault Fault h = absurd (h refl)
-not_fault Note h = refl
-
-pub notes_accepted : (fs : List Finding) → ((i : ℕ) → i < length fs → (get_or fs i no_finding).class ≡ Fault → ⊥) → true ≡ accepted fs
+pub notes_accepted : (fs : List Finding) → ((i : ℕ) → i < length fs → (get_or fs i no_finding).class ≡ fault → ⊥) → true ≡ accepted fs
 unfolding accepted
 notes_accepted [] h = refl
 notes_accepted (f ∷ fs) h =
-    rw (not_fault f.class (h zero (zero-lt-suc (length fs)))) (notes_accepted fs (λ i l. h (suc i) (suc-le-suc l)))
+    rw (ne_eqb _ _ (h zero (zero-lt-suc (length fs)))) (notes_accepted fs (λ i l. h (suc i) (suc-le-suc l)))
 
 -- Accepted exactly when no finding is a fault
-pub accepted_exactly : (fs : List Finding) → (accepted fs ≡ true) ↔ ((i : ℕ) → i < length fs → (get_or fs i no_finding).class ≡ Fault → ⊥)
+pub accepted_exactly : (fs : List Finding) → (accepted fs ≡ true) ↔ ((i : ℕ) → i < length fs → (get_or fs i no_finding).class ≡ fault → ⊥)
 accepted_exactly fs = (
   (λ yes-accepted i l e. false≢true (fault_void fs i l e ∙ yes-accepted)),
   (λ none. sym (notes_accepted fs none)),

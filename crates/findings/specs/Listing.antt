@@ -18,8 +18,7 @@ use Rattle.rules.specs.declared.Beside.{Beside}
 use Rattle.grounds.specs.Grounds.{broken}
 use Rattle.steps.specs.declared.Figure.{Figure}
 use Rattle.site.specs.Site.{minimum_points}
-use Rattle.classes.specs.declared.Class.TheVariants.{Fault}
-use Rattle.classes.specs.Classes.{places_of, place_at, is_fault, class_of}
+use Rattle.classes.specs.Classes.{places_of, place_at, fault, class_number, class_of}
 use Rattle.rules.specs.Rules.{last_rule, ground_of}
 use Rattle.findings.specs.declared.Finding.{Finding}
 use Rattle.findings.specs.declared.Findings.{Findings}
@@ -57,7 +56,7 @@ broken_at fig r ch l rule i = broken (ground_of (part_of r rule i) (beside_of fi
 
 -- the finding of a rule at its place i, in a job of that version
 unfoldable pub finding_at : Version → ℕ → ℕ → Finding
-finding_at v rule i = record { rule = rule; class = class_of v rule; place = place_at rule i }
+finding_at v rule i = record { rule = rule; class = class_number (class_of v rule); place = place_at rule i }
 
 -- a rule's findings at its first n places, by place
 unfoldable pub rule_findings : Version → (ℕ → Bool) → ℕ → ℕ → List Finding
@@ -77,17 +76,17 @@ findings v fig r ch l = findings_to v (broken_at fig r ch l) (places_of r.header
 -- no finding is a fault
 unfoldable pub accepted : List Finding → Bool
 accepted [] = true
-accepted (f ∷ fs) = not (is_fault f.class) && accepted fs
+accepted (f ∷ fs) = not (eqb f.class fault) && accepted fs
 
 -- the most findings that a run can have
 abbrev pub most_findings : ℕ
 most_findings = 98
 
--- what stands behind the last finding: an entry of no rule
+-- what stands behind the last finding
 abbrev pub no_finding : Finding
-no_finding = record { rule = 0; class = Fault; place = 0 }
+no_finding = record { rule = 0; class = 0; place = 0 }
 
--- a list of findings as it is handed over: how many, and entries of no rule behind them
+-- a list of findings as it is handed over: how many, and zeros behind them
 unfoldable pub listed : List Finding → Findings
 listed fs = record { count = length fs; list = filled_to most_findings no_finding fs }
 

@@ -27,14 +27,14 @@ use weighings::of_kind;
 #[derive(Clone, Copy)]
 pub struct Finding {
     pub rule: u8,
-    pub class: Class,
+    pub class: u8,
     pub place: u16,
 }
 
 // The most findings that a run can have.
 pub const MOST_FINDINGS: usize = 98;
 
-// A run's findings in order, and behind them entries of no rule.
+// A run's findings in order, and behind them nothing but zeros.
 #[derive(Clone, Copy)]
 pub struct Findings {
     pub count: usize,
@@ -116,7 +116,7 @@ fn finding_at(v: Version, rule: u8, i: u8) -> Finding
 {
     Finding {
         rule,
-        class: classes::class_of(v, rule),
+        class: classes::class_of(v, rule).number(),
         place: classes::place(rule, i),
     }
 }
@@ -145,7 +145,7 @@ pub fn find(
             count: 0,
             list: [Finding {
                 rule: 0,
-                class: Class::Fault,
+                class: 0,
                 place: 0,
             }; MOST_FINDINGS],
         },
@@ -184,7 +184,7 @@ pub fn accepted(findings: &[Finding]) -> bool
     ensures { result ≡ accepted findings.now }
 {
     for f in findings {
-        if f.class == Class::Fault {
+        if f.class == Class::Fault.number() {
             return false;
         }
     }

@@ -4,7 +4,6 @@ use mathlib.Core.Bool.{Bool}
 use native.Mathlib.Omega.{arith}
 use lib.ListN.{length}
 use Rattle.grounds.specs.Showing.{Condition}
-use Rattle.dates.specs.declared.Side.{Side}
 use Rattle.dates.specs.declared.Day.{Day}
 use Rattle.dates.proofs.Entries.{one_a_side}
 use Rattle.text.proofs.Lengths.{any_finding_short}
@@ -22,7 +21,7 @@ unfolding condition_in
 condition_short Bytes rule round c = omega (arith, condition_bytes_length c)
 condition_short Text rule round c = condition_text_short rule round c
 
-pub day_short : (form : Form) (kind : ℕ) (side : Side) (d : Day) → length (day_in form kind side d) ≤ 49
+pub day_short : (form : Form) (kind side : ℕ) (d : Day) → length (day_in form kind side d) ≤ 49
 unfolding day_in
 day_short Bytes kind side d = omega (arith, day_bytes_length kind side d, one_a_side d)
 day_short Text kind side d = day_text_short kind side d

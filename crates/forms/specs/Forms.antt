@@ -1,7 +1,6 @@
 -- The parts of an explanation in a form, as bytes or as text (docs/RULES.md, A finding explained).
 use Rattle.std.specs.Prelude.{Option, Some, None, ℕ, Bool, List, [], ◌∷◌, length}
 use Rattle.grounds.specs.Showing.{Condition, shown}
-use Rattle.dates.specs.declared.Side.{Side}
 use Rattle.dates.specs.declared.Day.{Day}
 use Rattle.dates.specs.declared.Day.TheVariants.{On, NoneSoDated}
 use Rattle.dates.specs.Dates.{entries}
@@ -26,7 +25,7 @@ condition_in Bytes rule round c = condition_bytes c
 condition_in Text rule round c = condition_text rule round c
 
 -- a certificate day
-unfoldable pub day_in : Form → ℕ → Side → Day → List ℕ
+unfoldable pub day_in : Form → ℕ → ℕ → Day → List ℕ
 day_in Bytes kind side day = day_bytes kind side day
 day_in Text kind side day = day_text kind side day
 

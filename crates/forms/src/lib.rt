@@ -8,7 +8,6 @@ ghost use Rattle.characters.specs.Writing.{Room, Wrote};
 ghost use Rattle.forms.specs.Forms.{Form, Bytes, Text, nearest, head_in, condition_in, day_in};
 
 use characters::Writer;
-use dates::Side;
 use explaining::Explanation;
 use grounds::comparison::{Comparison, ExactComparison, Way};
 use reasons::{bytes, texts};
@@ -41,12 +40,13 @@ pub trait Form {
         ensures { Wrote to.old (condition_in form subject.rule subject.round (two_signed left right)) to.new };
 
     // A certificate day that is used: the day of the nearest certificate, or that none is so dated.
-    fn put_day(to: &mut Writer<'_>, kind: u8, side: Side, day: Option<u16>)
+    fn put_day(to: &mut Writer<'_>, kind: u8, side: u8, day: Option<u16>)
         requires { Room to.old (day_in form kind side (nearest day)) }
         ensures { Wrote to.old (day_in form kind side (nearest day)) to.new };
 }
 
 // Counts and numbers of fixed width.
+#[derive(Clone, Copy)]
 pub struct Bytes;
 
 #[tactic(auto, using(crate::proofs::Days::as_bytes), unfolding(crate::specs::Forms::head_in, crate::specs::Forms::condition_in, crate::specs::Forms::day_in, reasons::specs::Bytes::condition_bytes))]
@@ -70,12 +70,16 @@ impl Form for Bytes {
         bytes::put_condition(to, 1, Way::Below, left, right, 0, 0);
     }
 
-    fn put_day(to: &mut Writer<'_>, kind: u8, side: Side, day: Option<u16>) {
-        bytes::put_day(to, kind, side, day);
+    fn put_day(to: &mut Writer<'_>, kind: u8, side: u8, day: Option<u16>) {
+        match day {
+            Some(day) => bytes::put_day(to, kind, side, 1, day),
+            None => bytes::put_day(to, kind, side, 0, 0),
+        }
     }
 }
 
 // Lines of words.
+#[derive(Clone, Copy)]
 pub struct Text;
 
 #[tactic(auto, using(crate::proofs::Days::as_text), unfolding(crate::specs::Forms::head_in, crate::specs::Forms::condition_in, crate::specs::Forms::day_in))]
@@ -98,7 +102,7 @@ impl Form for Text {
         texts::put_below(to, subject, left, right);
     }
 
-    fn put_day(to: &mut Writer<'_>, kind: u8, side: Side, day: Option<u16>) {
+    fn put_day(to: &mut Writer<'_>, kind: u8, side: u8, day: Option<u16>) {
         texts::put_day(to, kind, side, day);
     }
 }

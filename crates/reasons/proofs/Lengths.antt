@@ -15,13 +15,12 @@ use Rattle.characters.proofs.Texts.{either_short}
 use Rattle.grounds.specs.declared.comparison.Way.{Way}
 use Rattle.grounds.specs.declared.comparison.Way.TheVariants.{Below, Above, Same, Differs}
 use Rattle.grounds.specs.Showing.{Condition}
-use Rattle.dates.specs.declared.Side.{Side}
-use Rattle.dates.specs.declared.Side.TheVariants.{Before, After}
 use Rattle.dates.specs.declared.Day.{Day}
 use Rattle.dates.specs.declared.Day.TheVariants.{Unused, On, NoneSoDated}
+use Rattle.dates.specs.Side.{before}
 use Rattle.dates.specs.Dates.{entries_on}
 use Rattle.wording.proofs.Lengths.{words_short}
-use Rattle.reasons.specs.Bytes.{condition_bytes, found_bytes, day_bytes}
+use Rattle.reasons.specs.Bytes.{condition_bytes, day_bytes}
 use Rattle.reasons.specs.Text.{way_text, number_text, meaning_text, condition_text, kind_text, side_text, found_text, dated_text, day_text}
 
 -- As bytes
@@ -31,8 +30,8 @@ unfolding condition_bytes
 condition_bytes_length c =
     simp length-append (omega (arith, length_le 8 (signed_bits c.left), length_le 8 (signed_bits c.right), length_le 8 (signed_bits c.remainder), length_le 8 (signed_bits c.limit)))
 
-pub day_bytes_length : (kind : ℕ) (side : Side) (d : Day) → length (day_bytes kind side d) ≡ 5 * entries_on d
-unfolding day_bytes found_bytes entries_on
+pub day_bytes_length : (kind side : ℕ) (d : Day) → length (day_bytes kind side d) ≡ 5 * entries_on d
+unfolding day_bytes entries_on
 day_bytes_length kind side Unused = omega arith
 day_bytes_length kind side (On day) = omega (arith, length_le 2 day)
 day_bytes_length kind side NoneSoDated = omega (arith, length_le 2 0)
@@ -64,12 +63,11 @@ kind_short : (kind : ℕ) → length (kind_text kind) ≤ 7
 unfolding kind_text spelled
 kind_short kind = either_short (eqb kind meter) _ _ 7 (omega arith) (either_short (eqb kind pitot) _ _ 7 (omega arith) (omega arith))
 
-side_short : (side : Side) → length (side_text side) ≤ 7
+side_short : (side : ℕ) → length (side_text side) ≤ 7
 unfolding side_text spelled
-side_short Before = omega arith
-side_short After = omega arith
+side_short side = either_short (eqb side before) _ _ 7 (omega arith) (omega arith)
 
-pub day_text_short : (kind : ℕ) (side : Side) (d : Day) → length (day_text kind side d) ≤ 49
+pub day_text_short : (kind side : ℕ) (d : Day) → length (day_text kind side d) ≤ 49
 unfolding day_text dated_text found_text spelled
 day_text_short kind side Unused = omega arith
 day_text_short kind side (On day) = simp length-append (omega (arith, kind_short kind, side_short side, decimal_short day))

@@ -1,13 +1,11 @@
 -- A condition and a certificate day as bytes (docs/RULES.md, A finding explained).
-use Rattle.std.specs.Prelude.{Option, Some, None, ℕ, List, [], ◌∷◌, ◌++◌}
+use Rattle.std.specs.Prelude.{ℕ, List, [], ◌∷◌, ◌++◌}
 use Rattle.output.specs.Bytes.{le, signed_bits}
 use Rattle.grounds.specs.declared.comparison.Way.{Way}
 use Rattle.grounds.specs.declared.comparison.Way.TheVariants.{Below, Above, Same, Differs}
 use Rattle.grounds.specs.Showing.{Condition}
-use Rattle.dates.specs.declared.Side.{Side}
 use Rattle.dates.specs.declared.Day.{Day}
 use Rattle.dates.specs.declared.Day.TheVariants.{Unused, On, NoneSoDated}
-use Rattle.dates.specs.Side.{side_number}
 
 -- the number of a way
 unfoldable pub way_number : Way → ℕ
@@ -22,13 +20,8 @@ condition_bytes c =
     (c.which ∷ way_number c.way ∷ [])
     ++ le 8 (signed_bits c.left) ++ le 8 (signed_bits c.right) ++ le 8 (signed_bits c.remainder) ++ le 8 (signed_bits c.limit)
 
--- whether a day is found, and the day, 0 where there is none
-unfoldable pub found_bytes : Option ℕ → List ℕ
-found_bytes None = (0 ∷ []) ++ le 2 0
-found_bytes (Some day) = (1 ∷ []) ++ le 2 day
-
 -- a certificate day, 5 bytes: kind, side, found, day; nothing where none is used
-unfoldable pub day_bytes : ℕ → Side → Day → List ℕ
+unfoldable pub day_bytes : ℕ → ℕ → Day → List ℕ
 day_bytes kind side Unused = []
-day_bytes kind side (On day) = (kind ∷ side_number side ∷ []) ++ found_bytes (Some day)
-day_bytes kind side NoneSoDated = (kind ∷ side_number side ∷ []) ++ found_bytes None
+day_bytes kind side (On day) = (kind ∷ side ∷ []) ++ (1 ∷ []) ++ le 2 day
+day_bytes kind side NoneSoDated = (kind ∷ side ∷ []) ++ (0 ∷ []) ++ le 2 0

@@ -7,10 +7,9 @@ use Rattle.text.specs.Sheets.{newline}
 use Rattle.grounds.specs.declared.comparison.Way.{Way}
 use Rattle.grounds.specs.declared.comparison.Way.TheVariants.{Below, Above, Same, Differs}
 use Rattle.grounds.specs.Showing.{Condition}
-use Rattle.dates.specs.declared.Side.{Side}
-use Rattle.dates.specs.declared.Side.TheVariants.{Before, After}
 use Rattle.dates.specs.declared.Day.{Day}
 use Rattle.dates.specs.declared.Day.TheVariants.{Unused, On, NoneSoDated}
+use Rattle.dates.specs.Side.{before}
 use Rattle.wording.specs.Wording.{words_of}
 
 -- the word of a way
@@ -40,9 +39,8 @@ unfoldable pub kind_text : ℕ → List ℕ
 kind_text kind = cond (eqb kind meter) (spelled "METER ") (cond (eqb kind pitot) (spelled "PITOT ") (spelled "NOZZLE "))
 
 -- the word of a side
-unfoldable pub side_text : Side → List ℕ
-side_text Before = spelled "BEFORE "
-side_text After = spelled "AFTER "
+unfoldable pub side_text : ℕ → List ℕ
+side_text side = cond (eqb side before) (spelled "BEFORE ") (spelled "AFTER ")
 
 -- the day found, or that there is none
 unfoldable pub found_text : Option ℕ → List ℕ
@@ -50,11 +48,11 @@ found_text None = spelled "NONE"
 found_text (Some day) = decimal day
 
 -- a certificate day that is used: kind, side, and the day or that there is none
-unfoldable pub dated_text : ℕ → Side → Option ℕ → List ℕ
+unfoldable pub dated_text : ℕ → ℕ → Option ℕ → List ℕ
 dated_text kind side day = spelled "  CERTIFICATE " ++ kind_text kind ++ side_text side ++ found_text day ++ newline
 
 -- a certificate day; nothing where none is used
-unfoldable pub day_text : ℕ → Side → Day → List ℕ
+unfoldable pub day_text : ℕ → ℕ → Day → List ℕ
 day_text kind side Unused = []
 day_text kind side (On day) = dated_text kind side (Some day)
 day_text kind side NoneSoDated = dated_text kind side None

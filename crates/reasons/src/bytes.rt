@@ -2,12 +2,10 @@
 
 ghost use Rattle.std.specs.Prelude.{◌≡◌, [], ◌∷◌, ◌++◌};
 ghost use Rattle.output.specs.Bytes.{le};
-ghost use Rattle.dates.specs.Side.{side_number};
 ghost use Rattle.characters.specs.Writing.{Room, Wrote};
-ghost use Rattle.reasons.specs.Bytes.{way_number, found_bytes};
+ghost use Rattle.reasons.specs.Bytes.{way_number};
 
 use characters::Writer;
-use dates::Side;
 use grounds::comparison::Way;
 
 // A way as its number.
@@ -52,29 +50,12 @@ pub fn put_condition(
     to.number(8, limit);
 }
 
-// Whether a day is found, and the day.
-#[tactic(auto, unfolding(crate::specs::Bytes::found_bytes))]
-fn put_found(to: &mut Writer<'_>, day: Option<u16>)
-    requires { Room to.old (found_bytes day) }
-    ensures { Wrote to.old (found_bytes day) to.new }
-{
-    match day {
-        Some(day) => {
-            to.byte(1);
-            to.number(2, day as u64);
-        }
-        None => {
-            to.byte(0);
-            to.number(2, 0);
-        }
-    }
-}
-
 // A certificate day: kind, side, whether there is one, and the day.
-pub fn put_day(to: &mut Writer<'_>, kind: u8, side: Side, day: Option<u16>)
-    requires { Room to.old ((kind ∷ side_number side ∷ []) ++ found_bytes day) }
-    ensures { Wrote to.old ((kind ∷ side_number side ∷ []) ++ found_bytes day) to.new }
+pub fn put_day(to: &mut Writer<'_>, kind: u8, side: u8, found: u8, day: u16)
+    requires { Room to.old ((kind ∷ side ∷ []) ++ (found ∷ []) ++ le 2 day) }
+    ensures { Wrote to.old ((kind ∷ side ∷ []) ++ (found ∷ []) ++ le 2 day) to.new }
 {
-    put_pair(to, kind, side.number());
-    put_found(to, day);
+    put_pair(to, kind, side);
+    to.byte(found);
+    to.number(2, day as u64);
 }

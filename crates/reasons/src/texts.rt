@@ -101,13 +101,14 @@ fn put_kind(to: &mut Writer<'_>, kind: u8)
 }
 
 #[tactic(auto, unfolding(crate::specs::Text::side_text, characters::specs::Words::spelled))]
-fn put_side(to: &mut Writer<'_>, side: Side)
+fn put_side(to: &mut Writer<'_>, side: u8)
     requires { Room to.old (side_text side) }
     ensures { Wrote to.old (side_text side) to.new }
 {
-    match side {
-        Side::Before => to.word(b"BEFORE "),
-        Side::After => to.word(b"AFTER "),
+    if side == Side::Before.number() {
+        to.word(b"BEFORE ");
+    } else {
+        to.word(b"AFTER ");
     }
 }
 
@@ -125,7 +126,7 @@ fn put_found(to: &mut Writer<'_>, day: Option<u16>)
 
 // A certificate day: kind, side, and the day or that there is none.
 #[tactic(auto, unfolding(crate::specs::Text::dated_text, characters::specs::Words::spelled))]
-pub fn put_day(to: &mut Writer<'_>, kind: u8, side: Side, day: Option<u16>)
+pub fn put_day(to: &mut Writer<'_>, kind: u8, side: u8, day: Option<u16>)
     requires { Room to.old (dated_text kind side day) }
     ensures { Wrote to.old (dated_text kind side day) to.new }
 {

@@ -29,11 +29,11 @@ use Rattle.site.specs.Site.{narrow}
 use Rattle.rules.specs.declared.Beside.{Beside}
 use Rattle.rules.specs.Rules.{table, ground_of}
 use Rattle.steps.specs.declared.Figure.{Figure}
-use Rattle.dates.specs.declared.Side.TheVariants as side
 use Rattle.dates.specs.declared.Use.{Use}
 use Rattle.dates.specs.declared.Use.TheVariants.{Neither, Before, Both}
 use Rattle.dates.specs.declared.Sides.{Sides}
 use Rattle.dates.specs.declared.Days.{Days}
+use Rattle.dates.specs.Side.{before, after}
 use Rattle.dates.specs.Dates.{worked_use, meter_use, pitot_use, nozzle_use, day_of, sides_of, days_of, entries_on, entries_of, entries}
 use Rattle.dates.proofs.Entries.{one_a_side}
 use Rattle.reasons.proofs.Lengths.{condition_bytes_length, day_bytes_length}
@@ -58,7 +58,7 @@ conditions_bytes rule round (c ∷ cs) =
 sides_bytes : (kind : ℕ) (s : Sides) → length (sides_in Bytes kind s) ≡ 5 * entries_of s
 unfolding sides_in day_in entries_of
 sides_bytes kind s =
-    omega (arith, length-append (day_in Bytes kind side.Before s.before) (day_in Bytes kind side.After s.after), day_bytes_length kind side.Before s.before, day_bytes_length kind side.After s.after)
+    omega (arith, length-append (day_in Bytes kind before s.before) (day_in Bytes kind after s.after), day_bytes_length kind before s.before, day_bytes_length kind after s.after)
 
 days_bytes : (d : Days) → length (days_in Bytes d) ≡ 5 * entries d
 unfolding days_in entries

@@ -19,9 +19,7 @@ use Rattle.lines.specs.declared.Sheet.{Sheet}
 use Rattle.lines.specs.Sheet.{line_count}
 use Rattle.choosing.specs.declared.Chosen.{Chosen}
 use Rattle.findings.specs.declared.Finding.{Finding}
-use Rattle.classes.specs.declared.Class.{Class}
-use Rattle.classes.specs.declared.Class.TheVariants.{Fault, Note}
-use Rattle.classes.specs.Classes.{places_of, place_at}
+use Rattle.classes.specs.Classes.{places_of, place_at, fault}
 use Rattle.steps.specs.declared.Figure.{Figure}
 use Rattle.findings.specs.Listing.{no_finding, most_findings, listed, findings_for, lines_for, Breaks}
 use Rattle.findings.proofs.Members.{listed_exactly}
@@ -56,10 +54,9 @@ sheet_short sheet = joined_short (line_at sheet.entries) line_count 25 (λ i ins
 
 -- Findings
 
-class_short : (class : Class) → length (class_name class) ≤ 6
+class_short : (class : ℕ) → length (class_name class) ≤ 6
 unfolding class_name spelled
-class_short Fault = omega arith
-class_short Note = omega arith
+class_short class = either_short (eqb class fault) _ _ 6 (omega arith) (omega arith)
 
 finding_short : (f : Finding) → f.rule < 100 → f.place < 100 → length (finding_text f) ≤ 12
 unfolding finding_text

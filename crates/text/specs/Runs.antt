@@ -1,9 +1,8 @@
 -- The findings of a run and a run as a whole, as characters (docs/RULES.md, The printed text).
-use Rattle.std.specs.Prelude.{ℕ, Bool, cond, List, ◌++◌, get_or}
+use Rattle.std.specs.Prelude.{ℕ, Bool, cond, List, ◌++◌, eqb, get_or}
 use Rattle.findings.specs.declared.Finding.{Finding}
 use Rattle.findings.specs.Listing.{no_finding}
-use Rattle.classes.specs.declared.Class.{Class}
-use Rattle.classes.specs.declared.Class.TheVariants.{Fault, Note}
+use Rattle.classes.specs.Classes.{fault}
 use Rattle.reduction.specs.declared.Reduced.{Reduced}
 use Rattle.characters.specs.Numbers.{decimal}
 use Rattle.characters.specs.Words.{spelled}
@@ -11,9 +10,8 @@ use Rattle.output.specs.Bytes.{joined}
 use Rattle.text.specs.Sheets.{space, newline, sheet_text}
 
 -- what a finding is, by its class
-unfoldable pub class_name : Class → List ℕ
-class_name Fault = spelled "FAULT "
-class_name Note = spelled "NOTE "
+unfoldable pub class_name : ℕ → List ℕ
+class_name class = cond (eqb class fault) (spelled "FAULT ") (spelled "NOTE ")
 
 -- a finding: NOTE or FAULT, rule, place
 unfoldable pub finding_text : Finding → List ℕ

@@ -13,13 +13,14 @@ use reduction::Reduced;
 
 // What a finding is: a fault or a note.
 #[tactic(auto, unfolding(crate::specs::Runs::class_name, characters::specs::Words::spelled))]
-fn put_class(to: &mut Writer<'_>, class: Class)
+fn put_class(to: &mut Writer<'_>, class: u8)
     requires { Room to.old (class_name class) }
     ensures { Wrote to.old (class_name class) to.new }
 {
-    match class {
-        Class::Fault => to.word(b"FAULT "),
-        Class::Note => to.word(b"NOTE "),
+    if class == Class::Fault.number() {
+        to.word(b"FAULT ");
+    } else {
+        to.word(b"NOTE ");
     }
 }
 

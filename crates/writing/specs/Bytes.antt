@@ -4,7 +4,6 @@ use Rattle.output.specs.Bytes.{le, signed_bits, joined}
 use Rattle.lines.specs.declared.Entry.{Entry}
 use Rattle.lines.specs.declared.Sheet.{Sheet}
 use Rattle.lines.specs.Sheet.{no_entry, line_count}
-use Rattle.classes.specs.Classes.{class_number}
 use Rattle.findings.specs.declared.Finding.{Finding}
 use Rattle.findings.specs.Listing.{no_finding}
 
@@ -32,7 +31,7 @@ sheet_size = line_size * line_count
 
 -- a finding: rule, class, place
 unfoldable pub finding_bytes : Finding → List ℕ
-finding_bytes f = f.rule ∷ class_number f.class ∷ le 2 f.place
+finding_bytes f = f.rule ∷ f.class ∷ le 2 f.place
 
 -- the first n findings
 unfoldable pub findings_bytes : List Finding → ℕ → List ℕ

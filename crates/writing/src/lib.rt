@@ -46,7 +46,7 @@ pub fn put_finding(out: &mut [u8], at: usize, f: Finding)
     ensures { out.new ≡ spliced out.old at (finding_bytes f) }
 {
     put_byte(out, at, f.rule);
-    put_byte(out, at + 1, f.class.number());
+    put_byte(out, at + 1, f.class);
     put_number(out, at + 2, 2, f.place as u64);
 }
 

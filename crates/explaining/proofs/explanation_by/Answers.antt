@@ -24,4 +24,4 @@ invariant_of-all c =
 
 pub returns : goal.returns
 returns c =
-    put_together _ _ _ (is_clear c.args.read.clear c.requires) c.args.read.file.said c.at.ensures.1 c.at.ensures.0 c.header-header.ensures c.class_of.ensures c.days_of.ensures
+    put_together _ _ _ (is_clear c.args.read.clear c.requires) c.args.read.file.said c.at.ensures.1 c.at.ensures.0 c.header-header.ensures (rw c.class_of.ensures at c.number.ensures) c.days_of.ensures
