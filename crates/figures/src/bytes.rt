@@ -2,7 +2,7 @@
 
 ghost use Rattle.std.specs.Prelude.{◌≡◌, ◌+◌, ◌^◌, ◌<◌};
 ghost use Rattle.fields.specs.Numbers.{byte_at, u16_at};
-ghost use Rattle.fields.specs.Trouble.{Clear, checks};
+ghost use Rattle.fields.specs.Trouble.{checks};
 ghost use Rattle.fields.specs.Refusals.{trouble_of};
 ghost use Rattle.figures.specs.Figures.{field_rows};
 
@@ -24,14 +24,18 @@ pub fn number(s: &[u8], at: usize) -> u16
     u16::from_le_bytes([byte(s, at), byte(s, at + 1)])
 }
 
-// The trouble of a field of so many bytes at a place: the file ends before the field does, or the field is not good.
-pub fn met(s: &[u8], at: usize, width: usize, good: bool) -> Result<(), BadFile>
+// The trouble met so far, or else that of a field of so many bytes at a place: the file ends before the field does, or the field
+// is not good.
+pub fn met(
+    t: Result<(), BadFile>,
+    s: &[u8],
+    at: usize,
+    width: usize,
+    good: bool,
+) -> Result<(), BadFile>
     requires { at + width < 2 ^ 64 }
-    ensures { trouble_of result ≡ checks Clear (field_rows s.now at width good) }
+    ensures { trouble_of result ≡ checks (trouble_of t) (field_rows s.now at width good) }
 {
-    trouble::row(at + width <= s.len(), Reason::Figure, s.len()).and(trouble::row(
-        good,
-        Reason::Figure,
-        at,
-    ))
+    t.and(trouble::row(at + width <= s.len(), Reason::Figure, s.len()))
+        .and(trouble::row(good, Reason::Figure, at))
 }

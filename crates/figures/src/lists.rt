@@ -76,9 +76,16 @@ impl List<'_> {
         let p = self.place(i);
         let step = self.step(i);
         let limits = self.limits_of(i);
-        met(s, p, 2, limits.least <= step.least as u32)?;
-        met(s, p + 2, 1, StepPoints::check(limits.round, step.round))?;
+        met(Ok(()), s, p, 2, limits.least <= step.least as u32)?;
         met(
+            Ok(()),
+            s,
+            p + 2,
+            1,
+            StepPoints::check(limits.round, step.round),
+        )?;
+        met(
+            Ok(()),
             s,
             p + 3,
             1,
@@ -101,7 +108,7 @@ impl List<'_> {
         ensures { trouble_of result ≡ checks Clear (list_rows self.entry.bytes.now self.entry.at) }
     {
         let count = byte(self.bytes, self.at);
-        met(self.bytes, self.at, 1, StepCount::check(count))?;
+        met(Ok(()), self.bytes, self.at, 1, StepCount::check(count))?;
         self.steps_trouble(count)
     }
 
