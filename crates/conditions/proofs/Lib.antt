@@ -1,3 +1,4 @@
 -- The laws of the conditions, which the layers above cite.
+pub mod Parts
 pub mod Net
 pub mod Words

@@ -12,7 +12,7 @@ use metering::SamplingRate;
 const LEAST_TIME_AT_POINT: u64 = 120;
 
 // Rule 10: a point under 120 seconds.
-#[tactic(auto, unfolding(crate::specs::Conditions::short))]
+#[tactic(auto, using(crate::proofs::Parts::no_point_lem), unfolding(crate::specs::Conditions::short))]
 pub fn short(part: Part) -> Ground
     ensures { result ≡ short part }
 {
@@ -27,7 +27,7 @@ pub fn short(part: Part) -> Ground
 }
 
 // Rule 11: a segment's leak above the allowance, at a run's sampling rate.
-#[tactic(auto, unfolding(crate::specs::Conditions::leaking))]
+#[tactic(auto, using(crate::proofs::Parts::no_segment_lem), unfolding(crate::specs::Conditions::leaking))]
 pub fn leaking(rate: SamplingRate, part: Part) -> Ground
     ensures { result ≡ leaking rate.time rate.volume part }
 {

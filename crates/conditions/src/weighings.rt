@@ -24,7 +24,7 @@ fn steady_limit(second: u64, tare: u64) -> u64
 
 // Rule 17: a weighing whose two final weights differ by more than 0.5 mg and by more than 1 percent of the net. Both are
 // one comparison.
-#[tactic(auto, unfolding(crate::specs::Conditions::unsteady, grounds::specs::Comparing::apart))]
+#[tactic(auto, using(crate::proofs::Parts::no_weighing_lem), unfolding(crate::specs::Conditions::unsteady, grounds::specs::Comparing::apart))]
 pub fn unsteady(part: Part) -> Ground
     ensures { result ≡ unsteady part }
 {
