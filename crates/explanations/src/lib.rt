@@ -64,8 +64,8 @@ fn put_day<F: Form>(to: &mut Writer<'_>, kind: u8, side: u8, day: Day)
 {
     match day {
         Day::Unused => {}
-        Day::On(dated) => F::put_day(to, kind, side, Some(dated)),
-        Day::NoneSoDated => F::put_day(to, kind, side, None),
+        Day::On(dated) => F::put_day_by_number(to, kind, side, Some(dated)),
+        Day::NoneSoDated => F::put_day_by_number(to, kind, side, None),
     }
 }
 

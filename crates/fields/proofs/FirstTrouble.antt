@@ -81,7 +81,7 @@ checks_moved m t (r ∷ rs) =
     along Clear false = refl
 
 -- rows and then others moved along: the trouble of the first, or else that of the others, moved along
-checks_then : (rs : List Row) (m : ℕ) (qs : List Row) → checks Clear (rs ++ moved_along m qs) ≡ first (checks Clear rs) (from m (checks Clear qs))
+pub checks_then : (rs : List Row) (m : ℕ) (qs : List Row) → checks Clear (rs ++ moved_along m qs) ≡ first (checks Clear rs) (from m (checks Clear qs))
 checks_then rs m qs = checks_both Clear rs (moved_along m qs) ∙ checks_first _ (moved_along m qs) ∙ ap (first (checks Clear rs)) (checks_moved m Clear qs)
 
 -- so the code answers the trouble r of the first early ..

@@ -3,11 +3,16 @@
 
 #![tactic(auto)]
 
+#[cfg(test)]
+mod tests;
+
 ghost use Rattle.grounds.specs.Showing.{two_numbers, a_quotient, two_signed};
+ghost use Rattle.dates.specs.Side.{side_number};
 ghost use Rattle.characters.specs.Writing.{Room, Wrote};
 ghost use Rattle.forms.specs.Forms.{Form, Bytes, Text, nearest, head_in, condition_in, day_in};
 
 use characters::Writer;
+use dates::Side;
 use explaining::Explanation;
 use grounds::comparison::{Comparison, ExactComparison, Way};
 use reasons::{bytes, texts};
@@ -39,10 +44,18 @@ pub trait Form {
         requires { Room to.old (condition_in form subject.rule subject.round (two_signed left right)) }
         ensures { Wrote to.old (condition_in form subject.rule subject.round (two_signed left right)) to.new };
 
-    // A certificate day that is used: the day of the nearest certificate, or that none is so dated.
-    fn put_day(to: &mut Writer<'_>, kind: u8, side: u8, day: Option<u16>)
+    // A certificate day that is used, on the side of that number: the day of the nearest certificate, or that none is so dated.
+    fn put_day_by_number(to: &mut Writer<'_>, kind: u8, side: u8, day: Option<u16>)
         requires { Room to.old (day_in form kind side (nearest day)) }
         ensures { Wrote to.old (day_in form kind side (nearest day)) to.new };
+
+    // The same on a side of the run's day.
+    fn put_day(to: &mut Writer<'_>, kind: u8, side: Side, day: Option<u16>)
+        requires { Room to.old (day_in form kind (side_number side) (nearest day)) }
+        ensures { Wrote to.old (day_in form kind (side_number side) (nearest day)) to.new }
+    {
+        Self::put_day_by_number(to, kind, side.number(), day);
+    }
 }
 
 // Counts and numbers of fixed width.
@@ -70,7 +83,7 @@ impl Form for Bytes {
         bytes::put_condition(to, 1, Way::Below, left, right, 0, 0);
     }
 
-    fn put_day(to: &mut Writer<'_>, kind: u8, side: u8, day: Option<u16>) {
+    fn put_day_by_number(to: &mut Writer<'_>, kind: u8, side: u8, day: Option<u16>) {
         match day {
             Some(day) => bytes::put_day(to, kind, side, 1, day),
             None => bytes::put_day(to, kind, side, 0, 0),
@@ -102,7 +115,7 @@ impl Form for Text {
         texts::put_below(to, subject, left, right);
     }
 
-    fn put_day(to: &mut Writer<'_>, kind: u8, side: u8, day: Option<u16>) {
+    fn put_day_by_number(to: &mut Writer<'_>, kind: u8, side: u8, day: Option<u16>) {
         texts::put_day(to, kind, side, day);
     }
 }

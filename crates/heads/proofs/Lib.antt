@@ -1,3 +1,4 @@
 -- The laws of the records, which the layers above cite.
 pub mod InRange
 pub mod Places
+pub mod Tables
