@@ -7,6 +7,7 @@ ghost use Rattle.std.specs.Prelude.{[], ◌∷◌};
 ghost use Rattle.grounds.specs.Comparing.{holds};
 ghost use Rattle.grounds.specs.Showing.{two_numbers, broken_of, ◌broken_if◌, shown};
 ghost use Rattle.characters.specs.Writing.{Room, Wrote, RoomFor, WroteFront};
+ghost use Rattle.dates.specs.Side.{side_number};
 ghost use Rattle.forms.specs.Forms.{day_in};
 ghost use Rattle.explanations.specs.Written.{conditions_in, sides_in, days_in, written};
 
@@ -58,14 +59,14 @@ fn put_ground<F: Form>(to: &mut Writer<'_>, subject: Subject, ground: Ground)
 
 // A certificate day, where one is used.
 #[tactic(auto, using(forms::proofs::Days::unused, characters::proofs::Texts::wrote_none))]
-fn put_day<F: Form>(to: &mut Writer<'_>, kind: u8, side: u8, day: Day)
-    requires { Room to.old (day_in F.form kind side day) }
-    ensures { Wrote to.old (day_in F.form kind side day) to.new }
+fn put_day<F: Form>(to: &mut Writer<'_>, kind: u8, side: Side, day: Day)
+    requires { Room to.old (day_in F.form kind (side_number side) day) }
+    ensures { Wrote to.old (day_in F.form kind (side_number side) day) to.new }
 {
     match day {
         Day::Unused => {}
-        Day::On(dated) => F::put_day_by_number(to, kind, side, Some(dated)),
-        Day::NoneSoDated => F::put_day_by_number(to, kind, side, None),
+        Day::On(dated) => F::put_day(to, kind, side, Some(dated)),
+        Day::NoneSoDated => F::put_day(to, kind, side, None),
     }
 }
 
@@ -75,8 +76,8 @@ fn put_sides<F: Form>(to: &mut Writer<'_>, kind: u8, sides: Sides)
     requires { Room to.old (sides_in F.form kind sides) }
     ensures { Wrote to.old (sides_in F.form kind sides) to.new }
 {
-    put_day::<F>(to, kind, Side::Before.number(), sides.before);
-    put_day::<F>(to, kind, Side::After.number(), sides.after);
+    put_day::<F>(to, kind, Side::Before, sides.before);
+    put_day::<F>(to, kind, Side::After, sides.after);
 }
 
 // The days of all kinds.

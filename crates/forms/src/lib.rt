@@ -44,17 +44,65 @@ pub trait Form {
         requires { Room to.old (condition_in form subject.rule subject.round (two_signed left right)) }
         ensures { Wrote to.old (condition_in form subject.rule subject.round (two_signed left right)) to.new };
 
-    // A certificate day that is used, on the side of that number: the day of the nearest certificate, or that none is so dated.
-    fn put_day_by_number(to: &mut Writer<'_>, kind: u8, side: u8, day: Option<u16>)
-        requires { Room to.old (day_in form kind side (nearest day)) }
-        ensures { Wrote to.old (day_in form kind side (nearest day)) to.new };
-
-    // The same on a side of the run's day.
+    // A certificate day that is used: the day of the nearest certificate, or that none is so dated.
     fn put_day(to: &mut Writer<'_>, kind: u8, side: Side, day: Option<u16>)
         requires { Room to.old (day_in form kind (side_number side) (nearest day)) }
-        ensures { Wrote to.old (day_in form kind (side_number side) (nearest day)) to.new }
-    {
-        Self::put_day_by_number(to, kind, side.number(), day);
+        ensures { Wrote to.old (day_in form kind (side_number side) (nearest day)) to.new };
+}
+
+// A form that writes a certificate day on the side of any number.
+pub trait FormByNumber {
+    // Its case in the definitions.
+    ghost form: { Form };
+
+    // How many conditions and how many certificate days follow, or the finding's line.
+    fn put_head(to: &mut Writer<'_>, e: Explanation)
+        requires { Room to.old (head_in form e) }
+        ensures { Wrote to.old (head_in form e) to.new };
+
+    // A condition of two whole numbers.
+    fn put_numbers(to: &mut Writer<'_>, subject: Subject, which: u8, c: Comparison)
+        requires { Room to.old (condition_in form subject.rule subject.round (two_numbers which c)) }
+        ensures { Wrote to.old (condition_in form subject.rule subject.round (two_numbers which c)) to.new };
+
+    // A condition of a quotient with its remainder.
+    fn put_exactly(to: &mut Writer<'_>, subject: Subject, c: ExactComparison)
+        requires { Room to.old (condition_in form subject.rule subject.round (a_quotient c)) }
+        ensures { Wrote to.old (condition_in form subject.rule subject.round (a_quotient c)) to.new };
+
+    // A condition of two signed numbers, the left one below the right one.
+    fn put_below(to: &mut Writer<'_>, subject: Subject, left: i64, right: i64)
+        requires { Room to.old (condition_in form subject.rule subject.round (two_signed left right)) }
+        ensures { Wrote to.old (condition_in form subject.rule subject.round (two_signed left right)) to.new };
+
+    // A certificate day that is used: the day of the nearest certificate, or that none is so dated.
+    fn put_day(to: &mut Writer<'_>, kind: u8, side: u8, day: Option<u16>)
+        requires { Room to.old (day_in form kind side (nearest day)) }
+        ensures { Wrote to.old (day_in form kind side (nearest day)) to.new };
+}
+
+// Such a form writes one before the run's day, or after it.
+impl<F: FormByNumber> Form for F {
+    ghost form = { F.form };
+
+    fn put_head(to: &mut Writer<'_>, e: Explanation) {
+        <F as FormByNumber>::put_head(to, e);
+    }
+
+    fn put_numbers(to: &mut Writer<'_>, subject: Subject, which: u8, c: Comparison) {
+        <F as FormByNumber>::put_numbers(to, subject, which, c);
+    }
+
+    fn put_exactly(to: &mut Writer<'_>, subject: Subject, c: ExactComparison) {
+        <F as FormByNumber>::put_exactly(to, subject, c);
+    }
+
+    fn put_below(to: &mut Writer<'_>, subject: Subject, left: i64, right: i64) {
+        <F as FormByNumber>::put_below(to, subject, left, right);
+    }
+
+    fn put_day(to: &mut Writer<'_>, kind: u8, side: Side, day: Option<u16>) {
+        <F as FormByNumber>::put_day(to, kind, side.number(), day);
     }
 }
 
@@ -63,7 +111,7 @@ pub trait Form {
 pub struct Bytes;
 
 #[tactic(auto, using(crate::proofs::Days::as_bytes), unfolding(crate::specs::Forms::head_in, crate::specs::Forms::condition_in, crate::specs::Forms::day_in, reasons::specs::Bytes::condition_bytes))]
-impl Form for Bytes {
+impl FormByNumber for Bytes {
     ghost form = { Bytes };
 
     fn put_head(to: &mut Writer<'_>, e: Explanation) {
@@ -83,7 +131,7 @@ impl Form for Bytes {
         bytes::put_condition(to, 1, Way::Below, left, right, 0, 0);
     }
 
-    fn put_day_by_number(to: &mut Writer<'_>, kind: u8, side: u8, day: Option<u16>) {
+    fn put_day(to: &mut Writer<'_>, kind: u8, side: u8, day: Option<u16>) {
         match day {
             Some(day) => bytes::put_day(to, kind, side, 1, day),
             None => bytes::put_day(to, kind, side, 0, 0),
@@ -96,7 +144,7 @@ impl Form for Bytes {
 pub struct Text;
 
 #[tactic(auto, using(crate::proofs::Days::as_text), unfolding(crate::specs::Forms::head_in, crate::specs::Forms::condition_in, crate::specs::Forms::day_in))]
-impl Form for Text {
+impl FormByNumber for Text {
     ghost form = { Text };
 
     fn put_head(to: &mut Writer<'_>, e: Explanation) {
@@ -115,7 +163,7 @@ impl Form for Text {
         texts::put_below(to, subject, left, right);
     }
 
-    fn put_day_by_number(to: &mut Writer<'_>, kind: u8, side: u8, day: Option<u16>) {
+    fn put_day(to: &mut Writer<'_>, kind: u8, side: u8, day: Option<u16>) {
         texts::put_day(to, kind, side, day);
     }
 }

@@ -5,4 +5,4 @@ use Rattle.explanations.proofs.put_sides.Goals as goal
 
 pub returns : goal.returns
 unfolding sides_in
-returns g c = wrote_more (rw c.number.ensures at c.put_day.ensures) (rw c.number-2.ensures at c.put_day-2.ensures) c.requires
+returns g c = wrote_more c.put_day.ensures c.put_day-2.ensures c.requires
