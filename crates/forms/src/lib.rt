@@ -101,6 +101,8 @@ impl<F: FormByNumber> Form for F {
         <F as FormByNumber>::put_below(to, subject, left, right);
     }
 
+    // Laid into its caller, so that a side costs nothing beside its number.
+    #[inline(always)]
     fn put_day(to: &mut Writer<'_>, kind: u8, side: Side, day: Option<u16>) {
         <F as FormByNumber>::put_day(to, kind, side.number(), day);
     }
