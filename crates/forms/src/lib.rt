@@ -50,7 +50,7 @@ pub trait Form {
         ensures { Wrote to.old (day_in form kind (side_number side) (nearest day)) to.new };
 }
 
-// A form that writes a certificate day on the side of any number.
+// The same, but that a certificate day stands on the side of any number. Whatever implements it is a `Form` too.
 pub trait FormByNumber {
     // Its case in the definitions.
     ghost form: { Form };
@@ -81,7 +81,7 @@ pub trait FormByNumber {
         ensures { Wrote to.old (day_in form kind side (nearest day)) to.new };
 }
 
-// Such a form writes one before the run's day, or after it.
+// What is written on a side is what is written on the side of its number.
 impl<F: FormByNumber> Form for F {
     ghost form = { F.form };
 
